@@ -1,0 +1,55 @@
+-- What the tests of sides and lengths tell. Assumes nothing.
+use Prim.Native.Nat.{ℕ, _+_, _*_, _≤_}
+use mathlib.Core.Path.{_≡_, refl}
+use mathlib.Core.Bool.{Bool, true, false, not, _&&_, _||_, true≢false, false≢true}
+use native.Mathlib.Nat.{mul-le-mul, mul-le-mul-right}
+use native.Mathlib.Omega.{arith}
+use borrow.Author.Tests.{leb-true, ltb-false}
+use lib.Dec.{leb, ltb}
+use Rattle.board.specs.Board.{leastPlaneSide, outside, sidesOutside, hasChannel}
+
+pub both : (p q : Bool) → (p && q) ≡ true → (p ≡ true) × (q ≡ true)
+both true q e = (refl, e)
+both false q e = absurd (false≢true e)
+
+pub neither : (p q : Bool) → (p || q) ≡ false → (p ≡ false) × (q ≡ false)
+neither true q e = absurd (true≢false e)
+neither false q e = (refl, e)
+
+-- sides within the limits
+pub record Inside (least h w : ℕ) : Type 0 where
+  pub low-h : least ≤ h
+  pub high-h : h ≤ 4096
+  pub low-w : least ≤ w
+  pub high-w : w ≤ 4096
+  pub area : h * w ≤ 16777216
+
+pub inside : (least h w : ℕ) → sidesOutside least h w ≡ false → Inside least h w
+unfolding sidesOutside outside
+inside least h w e =
+    let s = neither (outside least h) (outside least w) e in
+    let a = neither (ltb h least) (ltb 4096 h) (s .0) in
+    let b = neither (ltb w least) (ltb 4096 w) (s .1) in
+    let high-h = ltb-false 4096 h (a .1) in
+    let high-w = ltb-false 4096 w (b .1) in
+    record {
+      low-h = ltb-false h least (a .0);
+      high-h = high-h;
+      low-w = ltb-false w least (b .0);
+      high-w = high-w;
+      area = mul-le-mul high-h high-w;
+    }
+
+-- a plane that stands among len values
+pub record Stands (h w len k : ℕ) : Type 0 where
+  pub one : h * w ≤ len
+  pub end : k * (h * w) + h * w ≤ len
+
+pub stands : {h w len k : ℕ} → hasChannel h w len k ≡ true → Stands h w len k
+unfolding hasChannel
+stands {h} {w} {len} {k} e =
+    let a = both (leb k 2) _ e in
+    let b = both (not (sidesOutside leastPlaneSide h w)) _ (a .1) in
+    let l = leb-true (3 * (h * w)) len (b .1) in
+    let m = mul-le-mul-right (h * w) (leb-true k 2 (a .0)) in
+    record { one = omega arith; end = omega arith }

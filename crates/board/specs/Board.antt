@@ -1,0 +1,49 @@
+-- The board record and its limits: 01, "Load" and "How each operation declines".
+use Prim.Native.Nat.{ℕ, _*_}
+use mathlib.Core.Path.{_≡_}
+use mathlib.Core.Bool.{Bool, not, _&&_, _||_}
+use lib.Dec.{leb, ltb}
+use lib.Ieee.{binary32, ofBits}
+use Rattle.board.specs.declared.Board.{Board}
+
+-- sides of a screen that is loaded or located, and of planes that have a gradient, a channel or samples
+abbrev pub leastSide : ℕ
+leastSide = 12
+
+abbrev pub leastPlaneSide : ℕ
+leastPlaneSide = 4
+
+abbrev pub mostSide : ℕ
+mostSide = 4096
+
+-- the side of a cell's sample
+abbrev pub mostSize : ℕ
+mostSize = 64
+
+-- the code's constants are these limits
+pub record LimitsAre (side planeSide most size : ℕ) : Type 0 where
+  pub side-is : side ≡ leastSide
+  pub plane-side-is : planeSide ≡ leastPlaneSide
+  pub most-is : most ≡ mostSide
+  pub size-is : size ≡ mostSize
+
+-- in a fresh record all but the sides is zero
+abbrev pub fresh : ℕ → ℕ → Board
+fresh h w =
+    record { height = h; width = w; «r_1» = 0; «c_1» = 0; r0 = 0; c0 = 0; r = 0; c = 0; pixelr = ofBits binary32 0; pixelc = ofBits binary32 0 }
+
+-- what a refused load hands back
+abbrev pub blank : Board
+blank = fresh 0 0
+
+unfoldable pub outside : ℕ → ℕ → Bool
+outside least side = ltb side least || ltb mostSide side
+
+unfoldable pub sidesOutside : ℕ → ℕ → ℕ → Bool
+unfolding outside
+sidesOutside least h w = outside least h || outside least w
+
+-- plane k of an h by w screen stands among len values
+unfoldable pub hasChannel : ℕ → ℕ → ℕ → ℕ → Bool
+unfolding sidesOutside
+hasChannel h w len k = leb k 2 && (not (sidesOutside leastPlaneSide h w) && leb (3 * (h * w)) len)

@@ -1,0 +1,34 @@
+-- 01, "Locating", widening. As in the scan, m is the distance that is left to the picture's edge.
+use Prim.Native.Nat.{ℕ, zero, suc, _+_, _-_, _*_, _/_}
+use mathlib.Core.Bool.{Bool, cond}
+use lib.Dec.{leb}
+use Rattle.lists.specs.Picture.{bit}
+use Rattle.bounds.specs.declared.Way.{Way}
+use Rattle.bounds.specs.Scan.{place}
+
+-- f at from, from + 1, .., n of them together
+abbrev pub total : (ℕ → ℕ) → ℕ → ℕ → ℕ
+total f from zero = 0
+total f from (suc n) = f from + total f (suc from) n
+
+-- the first distance from m down to 1 whose sum is at most 2, else 1; 0 stays
+abbrev pub lowered : (ℕ → ℕ) → ℕ → ℕ
+lowered sum zero = 0
+lowered sum (suc zero) = 1
+lowered sum (suc (suc m)) = cond (leb (sum (suc (suc m))) 2) (suc (suc m)) (lowered sum (suc m))
+
+-- the second point beside (p, m): the one ahead at the distance m - 1, but for columns to the left the one in the row before
+pub data Beside : Type 0 where
+  ahead before : Beside
+
+abbrev pub second : Beside → (ℕ → ℕ → Bool) → ℕ → ℕ → Bool
+second ahead at p m = at p (m - 1)
+second before at p m = at (p - 1) m
+
+-- the sum over the middle third across
+abbrev pub sumAt : Beside → (ℕ → ℕ → Bool) → ℕ → ℕ → ℕ
+sumAt b at across m = total (λ p. bit (at p m) + bit (second b at p m)) (across / 3) (2 * across / 3 - across / 3)
+
+-- the place c widened
+unfoldable pub widened : Beside → Way → (ℕ → ℕ → Bool) → ℕ → ℕ → ℕ → ℕ
+widened b way E across along c = place way along (lowered (sumAt b (λ p m. E p (place way along m)) across) (place way along c))

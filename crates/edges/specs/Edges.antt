@@ -1,0 +1,37 @@
+-- 01, "Gradient and threshold", second paragraph. g is the list of gradients, `row` rows of `column` each.
+use Prim.Native.Nat.{ℕ, _+_, _-_, _*_, _/_}
+use mathlib.Core.Bool.{cond}
+use mathlib.Core.List.{List}
+use lib.IntN.{pos}
+use lib.Ieee.{Float, nan, binary32, lt, le, mul, ofInt, ofBits, toBits}
+use lib.ListN.{length, getD}
+use Rattle.lists.specs.Tab.{tab, grid}
+use Rattle.lists.specs.Picture.{bit}
+use Rattle.binary32.specs.Binary32.{trunc}
+use Rattle.rank.specs.Rank.{entry}
+use Rattle.gradient.specs.Gradient.{gradients}
+
+-- the gradients of the middle half, rows first
+abbrev pub sample : ℕ → ℕ → List Float → List Float
+sample row column g =
+    grid (3 * row / 4 - row / 4) (3 * column / 4 - column / 4) (λ i j. getD g ((row / 4 + i) * column + (column / 4 + j)) nan)
+
+-- 0.55 · m without its fraction: the place in the sorted sample of m
+unfoldable pub rankOf : ℕ → ℕ
+rankOf m = trunc (mul binary32 (ofInt binary32 (pos m)) (ofBits binary32 0x3F0CCCCD))
+
+-- 1.0 if above it, 0.01 if below that
+unfoldable pub clip : Float → Float
+clip t = cond (lt (ofBits binary32 0x3F800000) t) (ofBits binary32 0x3F800000) (cond (lt t (ofBits binary32 0x3C23D70A)) (ofBits binary32 0x3C23D70A) t)
+
+unfoldable pub threshold : ℕ → ℕ → List Float → Float
+unfolding rankOf clip entry
+threshold row column g = clip (entry (toBits binary32) nan (sample row column g) (rankOf (length (sample row column g))))
+
+-- a byte for each gradient: 1 where it is at least the threshold
+abbrev pub marks : Float → ℕ → List Float → List ℕ
+marks th n g = tab n (λ k. bit (le th (getD g k nan)))
+
+-- the edge picture E of the planes of an h by w screen, as bytes, rows first
+abbrev pub edges : ℕ → ℕ → List Float → List ℕ
+edges h w planes = marks (threshold (h - 2) (w - 2) (gradients h w planes)) ((h - 2) * (w - 2)) (gradients h w planes)

@@ -1,0 +1,1 @@
+// Lists given by a rule for each place (specs/Tab), and the law of a loop that fills a lent slice by such a rule (proofs/Fill).
