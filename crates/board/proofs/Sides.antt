@@ -1,7 +1,7 @@
 -- What the tests of sides and lengths tell. Assumes nothing.
 use Prim.Native.Nat.{ℕ, _+_, _*_, _≤_}
 use mathlib.Core.Path.{_≡_, refl}
-use mathlib.Core.Bool.{Bool, true, false, not, _&&_, _||_, true≢false, false≢true}
+use mathlib.Core.Bool.{Bool, true, false, not, cond, _&&_, _||_, true≢false, false≢true}
 use native.Mathlib.Nat.{mul-le-mul, mul-le-mul-right}
 use native.Mathlib.Omega.{arith}
 use borrow.Author.Tests.{leb-true, ltb-false}
@@ -15,6 +15,11 @@ both false q e = absurd (false≢true e)
 pub neither : (p q : Bool) → (p || q) ≡ false → (p ≡ false) × (q ≡ false)
 neither true q e = absurd (true≢false e)
 neither false q e = (refl, e)
+
+-- a check that did not fail, in a chain of checks that answers 0
+pub passed : (bad : Bool) (n later : ℕ) → cond bad (n + 1) later ≡ 0 → (bad ≡ false) × (later ≡ 0)
+passed true n later e = absurd (omega arith)
+passed false n later e = (refl, e)
 
 -- sides within the limits
 pub record Inside (least h w : ℕ) : Type 0 where

@@ -5,7 +5,7 @@ use mathlib.Core.List.{List, [], _∷_, _++_}
 use native.Mathlib.Nat.{not-suc-le-zero, le-of-suc-le-suc}
 use native.Mathlib.Numerals.{add-one}
 use native.Mathlib.Omega.{arith}
-use lib.ListN.{length, set, drop, getD, length-set}
+use lib.ListN.{length, set, drop, getD, length-set, List·getD-append}
 use lib.Seq.{getD-append-add, getD-drop}
 use Rattle.lists.specs.Tab.{tabFrom, tab}
 
@@ -54,8 +54,11 @@ filled-more {f = f} {k = k} {d = d} {out = out} {v = v} h l e =
     let q : set out k v ≡ tab (k + 1) f ++ drop (k + 1) d = rw (h .is, e) (fill-step k f d l) in
     record { len = length-set out k v ∙ h .len; is = q }
 
--- what has not been reached is as it was
-tab-beyond : {A : Type 0} (z : A) (f : ℕ → A) (k r : ℕ) (d : List A) → k ≤ r → getD (tab k f ++ drop k d) r z ≡ getD d r z
+-- what has been reached has its value, and what has not been reached is as it was
+pub tab-within : {A : Type 0} (z : A) (f : ℕ → A) (k r : ℕ) (rest : List A) → r < k → getD (tab k f ++ rest) r z ≡ f r
+tab-within z f k r rest l = List·getD-append (tab k f) rest z r (omega (arith, length-tabFrom 0 k f)) ∙ getD-tab k r f z l
+
+pub tab-beyond : {A : Type 0} (z : A) (f : ℕ → A) (k r : ℕ) (d : List A) → k ≤ r → getD (tab k f ++ drop k d) r z ≡ getD d r z
 tab-beyond z f k r d h =
     let n : r ≡ length (tab k f) + (r - k) = rw (length-tabFrom 0 k f) (omega arith) in
     let m : k + (r - k) ≡ r = omega arith in

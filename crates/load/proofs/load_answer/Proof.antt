@@ -1,0 +1,46 @@
+use mathlib.Core.Path.{sym, _∙_}
+use native.Mathlib.Omega.{arith}
+use borrow.Author.Tests.{lt-ltb, le-ltb}
+use Rattle.board.specs.Board.{leastSide}
+use Rattle.board.proofs.Sides.{Inside, inside}
+use Rattle.load.specs.Load.{loadAnswer}
+use borrow.Author.Needs.{needs}
+use Rattle.load.proofs.load_answer.Statement.{statement}
+use Rattle.load.proofs.load_answer.Tie as tie
+
+sides-outside-requires : tie.Need-sides-outside-requires
+sides-outside-requires c κs = search needs
+
+returns : tie.Need-returns
+unfolding loadAnswer
+returns c = rw (sym (c .before .sides-outside .ensures) ∙ c .if1 .taken)
+
+-- the sides are within the limits
+here : (c : tie.Else1) → Inside leastSide (c .before .before .args .height) (c .before .before .args .width)
+here c = inside leastSide _ _ (sym (c .before .sides-outside .ensures) ∙ c .if1 .left)
+
+mul-n : tie.Need-mul-n
+mul-n c = omega (arith, here c .area)
+
+mul-if2 : tie.Need-mul-if2
+mul-if2 c = omega (arith, here c .area)
+
+returns-2 : tie.Need-returns-2
+unfolding loadAnswer
+returns-2 c = rw (sym (c .before .before .sides-outside .ensures) ∙ c .before .if1 .left, lt-ltb _ _ (c .if2 .taken))
+
+mul-if3 : tie.Need-mul-if3
+mul-if3 c = search needs
+
+returns-3 : tie.Need-returns-3
+unfolding loadAnswer
+returns-3 c = rw (sym (c .before .before .before .sides-outside .ensures) ∙ c .before .before .if1 .left, le-ltb _ _ (c .before .if2 .left), lt-ltb _ _ (c .if3 .taken))
+
+returns-4 : tie.Need-returns-4
+unfolding loadAnswer
+returns-4 c = rw (sym (c .before .before .before .sides-outside .ensures) ∙ c .before .before .if1 .left, le-ltb _ _ (c .before .if2 .left), le-ltb _ _ (c .if3 .left))
+
+pub load-answer-spec : {M : Type 1} → statement M
+load-answer-spec =
+    tie.close
+    (tie.spec sides-outside-requires returns mul-n mul-if2 returns-2 mul-if3 returns-3 returns-4)
