@@ -4,10 +4,10 @@ use mathlib.Core.Path.{_≡_, refl}
 use mathlib.Core.Bool.{Bool, true, false, not, cond, true≢false, false≢true}
 use native.Mathlib.Nat.{one-mul, le-div-iff-mul-le, mod-eq-of-lt}
 use native.Mathlib.Omega.{arith}
-use borrow.Author.Tests.{ltb-false}
+use borrow.Author.Tests.{ltb-false, le-leb}
 use lib.Dec.{T}
 use lib.IntN.{pos}
-use lib.Ieee.{Float, nan, inf, fin, binary32, lt, ne, up, down, fits, isNan, nanBits, toUnsigned, ofBits, toBits, top}
+use lib.Ieee.{Float, nan, inf, fin, binary32, lt, ne, up, down, fits, isNan, nanBits, inFloat, toUnsigned, ofBits, toBits, top}
 use lib.Ieee.Fits.{down-pos}
 use lib.Ieee.Bits.{ofBits-toBits, toBits-lt, nanBits-is}
 use Rattle.binary32.specs.Binary32.{magnitude}
@@ -21,6 +21,11 @@ unfolding isNan ne
 no-nan nan e = absurd (true≢false e)
 no-nan (inf s) e = tt
 no-nan (fin s m k) e = tt
+
+-- whole numbers up to 2 ^ 24 are values: what a cast to binary32 asks
+pub in-float : {n : ℕ} → n ≤ 16777216 → T (inFloat binary32 (pos n))
+unfolding inFloat
+in-float {n} h = T-of (le-leb n 16777216 h)
 
 -- ---- truncation outside the range that the kit's function takes
 

@@ -1,5 +1,5 @@
 // Single binary32 values: the leaves that the later steps share (01, first paragraph and "How each operation declines").
-// Definitions: specs/Binary32. Laws for callers: proofs/Order (the order of values as the order of their bits) and proofs/Values.
+// Definitions: specs/Binary32. Laws for callers: proofs/Order (the order of values as the order of their bits), proofs/Units and proofs/Values.
 ghost use mathlib.Core.Path.{_≡_};
 ghost use mathlib.Core.Bool.{not};
 ghost use lib.Dec.{T};
@@ -29,6 +29,12 @@ pub fn larger(a: f32, b: f32) -> f32
     ensures { λ r. ⌜ r ≡ Spec.larger a b ⌝ }
 {
     if a > b { a } else { b }
+}
+
+pub fn lesser(a: f32, b: f32) -> f32
+    ensures { λ r. ⌜ r ≡ Spec.lesser a b ⌝ }
+{
+    if a < b { a } else { b }
 }
 
 // As Rust's `as u64`: total, 0 for what is negative or no number, the largest u64 for what lies above.

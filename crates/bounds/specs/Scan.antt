@@ -1,8 +1,10 @@
 -- 01, "Bounds scan". One rule serves the four directions. It goes along places, with m the distance that is left to the picture's edge;
 -- `at p m` is the point that lies across at p and along at the distance m. lo to hi is the middle third across, without hi.
-use Prim.Native.Nat.{ℕ, zero, suc, _+_, _-_, _*_, _/_}
+use Prim.Native.Nat.{ℕ, zero, suc, _-_, _*_, _/_}
 use mathlib.Core.Bool.{Bool, cond}
 use lib.Dec.{eqb, leb, ltb}
+use Rattle.bounds.specs.declared.Move.{Move}
+use Rattle.bounds.specs.declared.Move.the-variants.{Stop, To}
 use Rattle.bounds.specs.declared.Way.{Way}
 use Rattle.bounds.specs.declared.Way.the-variants.{Near, Far}
 
@@ -12,28 +14,27 @@ seenAt set k from zero = from
 seenAt set zero from (suc n) = cond (set from) from (seenAt set zero (suc from) n)
 seenAt set (suc k) from (suc n) = cond (set from) (seenAt set k (suc from) n) (seenAt set (suc k) (suc from) n)
 
--- how a scan goes on
-pub data Move : Type 0 where
-  stop : Move
-  to : ℕ → ℕ → Move
-
+-- how a scan at the distance m goes on
 abbrev pub after : Move → ℕ → (ℕ → ℕ → ℕ) → ℕ
-after stop m go = m
-after (to m' p') m go = go m' p'
+after Stop m go = m
+after (To m' p') m go = go m' p'
 
 module _ (at : ℕ → ℕ → Bool) (lo hi : ℕ) where
   -- the row of the fifth set point at the distance m; hi where there are fewer than five
   abbrev pub fifth : ℕ → ℕ
   fifth m = seenAt (λ p. at p m) 4 lo (hi - lo)
 
+  -- to the distance m where it has five set points, and else as given
+  abbrev pub jump : ℕ → Move → Move
+  jump m other = cond (ltb (fifth m) hi) (To m (fifth m)) other
+
   -- `tries` skips from `skip` on: stop where the edge is reached, jump where five points are set, and stop where no skip fits
   abbrev pub skips : ℕ → ℕ → ℕ → Move
-  skips m skip zero = stop
-  skips m skip (suc tries) =
-      cond (leb m skip) stop (cond (ltb (fifth (m - skip)) hi) (to (m - skip) (fifth (m - skip))) (skips m (suc skip) tries))
+  skips m skip zero = Stop
+  skips m skip (suc tries) = cond (leb m skip) Stop (jump (m - skip) (skips m (suc skip) tries))
 
   abbrev pub move : ℕ → ℕ → Move
-  move m p = cond (eqb m 0) stop (cond (at p (m - 1)) (to (m - 1) p) (skips m 1 3))
+  move m p = cond (eqb m 0) Stop (cond (at p (m - 1)) (To (m - 1) p) (skips m 1 3))
 
   -- the distance at which the scan stops. Each move lowers m, so m moves are enough.
   abbrev pub scanned : ℕ → ℕ → ℕ → ℕ

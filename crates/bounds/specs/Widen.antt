@@ -3,6 +3,8 @@ use Prim.Native.Nat.{ℕ, zero, suc, _+_, _-_, _*_, _/_}
 use mathlib.Core.Bool.{Bool, cond}
 use lib.Dec.{leb}
 use Rattle.lists.specs.Picture.{bit}
+use Rattle.bounds.specs.declared.Beside.{Beside}
+use Rattle.bounds.specs.declared.Beside.the-variants.{Ahead, Before}
 use Rattle.bounds.specs.declared.Way.{Way}
 use Rattle.bounds.specs.Scan.{place}
 
@@ -18,16 +20,17 @@ lowered sum (suc zero) = 1
 lowered sum (suc (suc m)) = cond (leb (sum (suc (suc m))) 2) (suc (suc m)) (lowered sum (suc m))
 
 -- the second point beside (p, m): the one ahead at the distance m - 1, but for columns to the left the one in the row before
-pub data Beside : Type 0 where
-  ahead before : Beside
-
 abbrev pub second : Beside → (ℕ → ℕ → Bool) → ℕ → ℕ → Bool
-second ahead at p m = at p (m - 1)
-second before at p m = at (p - 1) m
+second Ahead at p m = at p (m - 1)
+second Before at p m = at (p - 1) m
+
+-- how many of the two points are set
+abbrev pub pair : Beside → (ℕ → ℕ → Bool) → ℕ → ℕ → ℕ
+pair b at m p = bit (at p m) + bit (second b at p m)
 
 -- the sum over the middle third across
 abbrev pub sumAt : Beside → (ℕ → ℕ → Bool) → ℕ → ℕ → ℕ
-sumAt b at across m = total (λ p. bit (at p m) + bit (second b at p m)) (across / 3) (2 * across / 3 - across / 3)
+sumAt b at across m = total (pair b at m) (across / 3) (2 * across / 3 - across / 3)
 
 -- the place c widened
 unfoldable pub widened : Beside → Way → (ℕ → ℕ → Bool) → ℕ → ℕ → ℕ → ℕ

@@ -1,5 +1,5 @@
 -- 01, "Gradient and threshold", second paragraph. g is the list of gradients, `row` rows of `column` each.
-use Prim.Native.Nat.{ℕ, _+_, _-_, _*_, _/_}
+use Prim.Native.Nat.{ℕ, _+_, _-_, _*_, _/_, _≤_, _<_}
 use mathlib.Core.Bool.{cond}
 use mathlib.Core.List.{List}
 use lib.IntN.{pos}
@@ -35,3 +35,9 @@ marks th n g = tab n (λ k. bit (le th (getD g k nan)))
 -- the edge picture E of the planes of an h by w screen, as bytes, rows first
 abbrev pub edges : ℕ → ℕ → List Float → List ℕ
 edges h w planes = marks (threshold (h - 2) (w - 2) (gradients h w planes)) ((h - 2) * (w - 2)) (gradients h w planes)
+
+-- ---- for the contracts inside
+
+-- every value has bits of at most infinity's: none is below 0.0, -0.0 or no number
+abbrev pub AllPlain : List Float → Type 0
+AllPlain g = (k : ℕ) → k < length g → toBits binary32 (getD g k nan) ≤ 0x7F800000

@@ -1,7 +1,25 @@
 // The C interface: include/folgutan.h documents it. Each function carries the contract of the one that it wraps.
 // It asks nothing of its caller beyond valid slices that do not overlap.
+ghost use mathlib.Core.Path.{_≡_};
+ghost use lib.ListN.{length};
 ghost use Rattle.load.specs.Load.{ofByte, LoadGives};
+ghost use Rattle.gradient.specs.Gradient.{GradientGives};
+ghost use Rattle.reading.specs.Reading.{readingOf};
+ghost use Rattle.sample.specs.Sample.{sampleAnswer, SampleGives};
+ghost use Rattle.folgutan.specs.Line.{lineOf};
+use board::Board;
 use load::Loaded;
+use reading::Reading;
+
+// A reading as C has it: zeros unless the answer is 0.
+#[repr(C)]
+pub struct Line {
+    pub answer: u32,
+    pub pitch: f32,
+    pub offset: usize,
+    pub count: usize,
+    pub votes: usize,
+}
 
 #[no_mangle]
 pub extern "C" fn folgutan_load(
@@ -13,4 +31,58 @@ pub extern "C" fn folgutan_load(
     ensures { λ r. ⌜ LoadGives ofByte height width (now (pixels .entry)) (now (planes .entry)) r (now (planes .exit)) ⌝ }
 {
     load::new(height, width, pixels, planes)
+}
+
+#[no_mangle]
+pub extern "C" fn folgutan_gradient(
+    height: usize,
+    width: usize,
+    planes: &[f32],
+    out: &mut [f32],
+) -> u32
+    ensures { λ r. ⌜ GradientGives height width (now (planes .entry)) (now (out .entry)) r (now (out .exit)) ⌝ }
+{
+    gradient::get_gradient(height, width, planes, out)
+}
+
+#[no_mangle]
+pub extern "C" fn folgutan_read_line(list: &[u32], scratch: &mut [u32]) -> Line
+    ensures { λ r. ⌜ r ≡ lineOf (readingOf (now (list .entry)) (length (now (scratch .entry)))) ⌝ }
+{
+    let reading = reading::get_line(list, scratch);
+    match reading {
+        Reading::Read {
+            pitch,
+            offset,
+            count,
+            votes,
+        } => Line {
+            answer: 0,
+            pitch: pitch,
+            offset: offset,
+            count: count,
+            votes: votes,
+        },
+        Reading::Refused(n) => Line {
+            answer: n,
+            pitch: 0.0,
+            offset: 0,
+            count: 0,
+            votes: 0,
+        },
+    }
+}
+
+#[no_mangle]
+pub extern "C" fn folgutan_sample(
+    b: Board,
+    planes: &[f32],
+    x: usize,
+    y: usize,
+    size: usize,
+    out: &mut [f32],
+) -> u32
+    ensures { λ r. ⌜ SampleGives b (now (planes .entry)) x y size (now (out .entry)) (sampleAnswer b (now (planes .entry)) x y size (length (now (out .entry)))) r (now (out .exit)) ⌝ }
+{
+    sample::extra_save_cell(b, planes, x, y, size, out)
 }

@@ -1,4 +1,20 @@
 // Inner steps for tests and benchmarks alone: in no header. What a function requires, its caller makes sure of.
+ghost use mathlib.Core.List.{_++_};
+ghost use mathlib.Core.Bool.{true, false};
+ghost use Prim.Native.Nat.{_+_, _-_, _*_};
+ghost use lib.ListN.{take, drop};
+ghost use Rattle.lists.specs.Picture.{points};
+ghost use Rattle.board.specs.Board.{leastPlaneSide, sidesOutside};
+ghost use Rattle.gradient.specs.Gradient.{gradients, allUnits};
+ghost use Rattle.edges.specs.Edges.{marks, threshold, AllPlain};
+ghost use Rattle.narrow.specs.Narrow.{UnitPlanes};
+ghost use Rattle.narrow.specs.Narrow as Narrow;
+ghost use Rattle.bounds.specs.Bounds.{boundsOf, Within};
+ghost use Rattle.bounds.specs.Bounds as BoundsSpec;
+ghost use Rattle.strips.specs.Strip.{columnScores, rowScores};
+ghost use Rattle.strips.specs.States.{Scorable};
+ghost use Rattle.sample.specs.Sample.{cellAnswer, SampleGives};
+ghost use Rattle.folgutan_inner.specs.Corners.{boundsIn};
 ghost use mathlib.Core.Path.{_≡_};
 ghost use mathlib.Core.Bool.{not};
 ghost use Prim.Native.Nat.{_≤_, _^_};
@@ -7,6 +23,17 @@ ghost use lib.Ieee.{isNan};
 ghost use lib.ListN.{length};
 ghost use Rattle.binary32.specs.Binary32 as Binary32;
 ghost use Rattle.rank.specs.Rank.{countAtMost, self, entry};
+use board::Board;
+use bounds::Bounds;
+
+// The bounds as C has them.
+#[repr(C)]
+pub struct Corners {
+    pub r_1: usize,
+    pub r_2: usize,
+    pub c_1: usize,
+    pub c_2: usize,
+}
 
 #[no_mangle]
 pub extern "C" fn folgutan_inner_unit(x: f32) -> bool
@@ -43,4 +70,136 @@ pub extern "C" fn folgutan_inner_entry(list: &[u32], j: usize, most: u32) -> u32
     ensures { λ r. ⌜ r ≡ entry self 0 (now (list .entry)) j ⌝ }
 {
     rank::entry_of(list, j, most)
+}
+
+#[no_mangle]
+pub extern "C" fn folgutan_inner_all_units(planes: &[f32], n: usize) -> bool
+    requires { ⌜ (n ≤ length (now planes)) × (n ≤ 2 ^ 26) ⌝ }
+    ensures { λ r. ⌜ r ≡ allUnits (take n (now (planes .entry))) ⌝ }
+{
+    gradient::all_units(planes, n)
+}
+
+#[no_mangle]
+pub extern "C" fn folgutan_inner_gradient_of(
+    height: usize,
+    width: usize,
+    planes: &[f32],
+    out: &mut [f32],
+)
+    requires { ⌜ sidesOutside leastPlaneSide height width ≡ false ⌝ }
+    requires { ⌜ (3 * (height * width) ≤ length (now planes)) × ((height - 2) * (width - 2) ≤ length (now out)) ⌝ }
+    requires { ⌜ allUnits (take (3 * (height * width)) (now planes)) ≡ true ⌝ }
+    ensures { λ _. ⌜ now (out .exit) ≡ gradients height width (now (planes .entry)) ++ drop ((height - 2) * (width - 2)) (now (out .entry)) ⌝ }
+{
+    gradient::gradient_of(height, width, planes, out)
+}
+
+#[no_mangle]
+pub extern "C" fn folgutan_inner_edges(row: usize, column: usize, g: &[f32], out: &mut [u8])
+    requires { ⌜ (2 ≤ row) × (row ≤ 4094) × (2 ≤ column) × (column ≤ 4094) × (length (now g) ≡ row * column) × (row * column ≤ length (now out)) ⌝ }
+    requires { ⌜ AllPlain (now g) ⌝ }
+    ensures { λ _. ⌜ now (out .exit) ≡ marks (threshold row column (now (g .entry))) (row * column) (now (g .entry)) ++ drop (row * column) (now (out .entry)) ⌝ }
+{
+    edges::edges_of(row, column, g, out)
+}
+
+#[no_mangle]
+pub extern "C" fn folgutan_inner_narrow(
+    height: usize,
+    width: usize,
+    planes: &mut [f32],
+    scratch: &mut [f32],
+)
+    requires { ⌜ UnitPlanes height width (now planes) × (height * width ≤ length (now scratch)) ⌝ }
+    ensures { λ _. ⌜ now (planes .exit) ≡ Narrow.narrow 3 height width (now (planes .entry)) ⌝ }
+{
+    narrow::narrow(height, width, planes, scratch)
+}
+
+#[no_mangle]
+pub extern "C" fn folgutan_inner_bounds(edges: &[u8], row: usize, column: usize) -> Corners
+    requires { ⌜ (1 ≤ row) × (row ≤ 4094) × (1 ≤ column) × (column ≤ 4094) × (row * column ≤ length (now edges)) ⌝ }
+    ensures { λ r. ⌜ boundsIn r ≡ boundsOf (points column 1 (now (edges .entry))) row column ⌝ }
+{
+    let b = bounds::get_r12c12(edges, row, column);
+    Corners {
+        r_1: b.r_1,
+        r_2: b.r_2,
+        c_1: b.c_1,
+        c_2: b.c_2,
+    }
+}
+
+fn bounds_of(c: Corners) -> Bounds
+    ensures { λ r. ⌜ r ≡ boundsIn c ⌝ }
+{
+    Bounds {
+        r_1: c.r_1,
+        r_2: c.r_2,
+        c_1: c.c_1,
+        c_2: c.c_2,
+    }
+}
+
+#[no_mangle]
+pub extern "C" fn folgutan_inner_widen(
+    edges: &[u8],
+    stride: usize,
+    row: usize,
+    column: usize,
+    b: Corners,
+) -> Corners
+    requires { ⌜ (3 ≤ row) × (row ≤ 4094) × (3 ≤ column) × (column ≤ 4094) × (column ≤ stride) × (row * stride ≤ length (now edges)) × Within row column (boundsIn b) ⌝ }
+    ensures { λ r. ⌜ boundsIn r ≡ BoundsSpec.widen (points stride 1 (now (edges .entry))) row column (boundsIn b) ⌝ }
+{
+    let w = bounds::widen(edges, stride, row, column, bounds_of(b));
+    Corners {
+        r_1: w.r_1,
+        r_2: w.r_2,
+        c_1: w.c_1,
+        c_2: w.c_2,
+    }
+}
+
+#[no_mangle]
+pub extern "C" fn folgutan_inner_column_scores(
+    edges: &[u8],
+    stride: usize,
+    b: Corners,
+    out: &mut [u32],
+)
+    requires { ⌜ Scorable (now edges) stride (boundsIn b) × (b .«c_2» - b .«c_1» ≤ length (now out)) ⌝ }
+    ensures { λ _. ⌜ now (out .exit) ≡ columnScores (points stride 1 (now (edges .entry))) (boundsIn b) ++ drop (b .«c_2» - b .«c_1») (now (out .entry)) ⌝ }
+{
+    strips::column_scores(edges, stride, bounds_of(b), out)
+}
+
+#[no_mangle]
+pub extern "C" fn folgutan_inner_row_scores(
+    edges: &[u8],
+    stride: usize,
+    b: Corners,
+    turned: &mut [u8],
+    out: &mut [u32],
+)
+    requires { ⌜ Scorable (now edges) stride (boundsIn b) × ((b .«c_2» - b .«c_1» + 1) * (b .«r_2» - b .«r_1») ≤ length (now turned)) × (b .«r_2» - b .«r_1» ≤ length (now out)) ⌝ }
+    ensures { λ _. ⌜ now (out .exit) ≡ rowScores (points stride 1 (now (edges .entry))) (boundsIn b) ++ drop (b .«r_2» - b .«r_1») (now (out .entry)) ⌝ }
+{
+    strips::row_scores(edges, stride, bounds_of(b), turned, out)
+}
+
+#[no_mangle]
+pub extern "C" fn folgutan_inner_sample(
+    b: Board,
+    planes: &[f32],
+    x: usize,
+    y: usize,
+    size: usize,
+    out: &mut [f32],
+) -> u32
+    requires { ⌜ 3 * (b .height * b .width) ≤ length (now planes) ⌝ }
+    ensures { λ r. ⌜ SampleGives b (now (planes .entry)) x y size (now (out .entry)) (cellAnswer b x y size (length (now (out .entry)))) r (now (out .exit)) ⌝ }
+{
+    sample::cell_of(b, planes, x, y, size, out)
 }

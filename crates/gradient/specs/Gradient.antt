@@ -1,11 +1,11 @@
 -- 01, "Gradient and threshold", first paragraph, and the gradient's refusals. All sums are binary32, rounded one operation at a time.
-use Prim.Native.Nat.{ℕ, _+_, _-_, _*_}
+use Prim.Native.Nat.{ℕ, _+_, _-_, _*_, _≤_}
 use mathlib.Core.Bool.{Bool, true, not, cond, _&&_, _||_}
 use mathlib.Core.List.{List, [], _∷_, _++_}
 use mathlib.Core.Path.{_≡_}
 use lib.Dec.{eqb, ltb}
-use lib.Ieee.{Float, binary32, neg, add, sub, ofBits}
-use lib.ListN.{length, take, drop}
+use lib.Ieee.{Float, nan, binary32, neg, add, sub, ofBits}
+use lib.ListN.{length, getD, take, drop}
 use Rattle.lists.specs.Tab.{grid}
 use Rattle.lists.specs.Picture.{flip}
 use Rattle.binary32.specs.Binary32.{unit, magnitude, larger}
@@ -46,12 +46,16 @@ abbrev pub allUnits : List Float → Bool
 allUnits [] = true
 allUnits (x ∷ l) = unit x && allUnits l
 
+-- planes or output short (refusal 3), for `len` plane values and `room` entries of output
+abbrev pub short : ℕ → ℕ → ℕ → ℕ → Bool
+short h w len room = ltb len (3 * (h * w)) || ltb room ((h - 2) * (w - 2))
+
 -- the answer, for `room` entries of output
 unfoldable pub gradientAnswer : ℕ → ℕ → List Float → ℕ → ℕ
 unfolding sidesOutside
 gradientAnswer h w planes room =
     cond (sidesOutside leastPlaneSide h w) 1
-    (cond (ltb (length planes) (3 * (h * w)) || ltb room ((h - 2) * (w - 2))) 3
+    (cond (short h w (length planes) room) 3
     (cond (not (allUnits (take (3 * (h * w)) planes))) 4 0))
 
 -- the output afterwards: the gradients, then what was there; as it was on a refusal
@@ -64,3 +68,13 @@ gradientOut h w planes out =
 pub record GradientGives (h w : ℕ) (planes out : List Float) (answer : ℕ) (left : List Float) : Type 0 where
   pub answer-is : answer ≡ gradientAnswer h w planes (length out)
   pub out-is : left ≡ gradientOut h w planes out
+
+-- ---- for the contracts inside
+
+-- the picture that a list holds from `at` on, where the next row is `down` entries further and the next column `right`
+abbrev pub square : List Float → ℕ → ℕ → ℕ → ℕ → ℕ → Float
+square p at down right i j = getD p (at + (i * down + j * right)) nan
+
+-- every value up to the place `last` is a unit
+abbrev pub UnitsTo : List Float → ℕ → Type 0
+UnitsTo p last = (k : ℕ) → k ≤ last → unit (getD p k nan) ≡ true

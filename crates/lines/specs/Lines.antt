@@ -1,7 +1,8 @@
 -- 01, "Lines and votes", first paragraph: the lines of a list s of scores, and the estimate e of their gap.
-use Prim.Native.Nat.{ℕ, _+_, _-_, min, max}
+use Prim.Native.Nat.{ℕ, _+_, _-_, _≤_, min, max}
+use mathlib.Core.Path.{_≡_}
 use mathlib.Core.Bool.{Bool, cond, _&&_, _||_}
-use mathlib.Core.List.{List, [], _∷_}
+use mathlib.Core.List.{List, [], _∷_, _++_}
 use lib.Dec.{leb, ltb, eqb}
 use lib.IntN.{pos}
 use lib.Ieee.{Float, binary32, le, add, mul, div, ofInt, ofBits}
@@ -9,6 +10,16 @@ use lib.ListN.{length, getD, take, drop}
 use Rattle.lists.specs.Tab.{tab}
 use Rattle.binary32.specs.Binary32.{trunc}
 use Rattle.rank.specs.Rank.{self, entry}
+
+abbrev pub largest : List ℕ → ℕ
+largest [] = 0
+largest (x ∷ l) = max x (largest l)
+
+-- a list of scores: 4 to 4,096 of them, none above 4,096
+pub record Scores (s : List ℕ) : Type 0 where
+  pub least : 4 ≤ length s
+  pub most : length s ≤ 4096
+  pub entries : largest s ≤ 4096
 
 -- a whole number as a binary32
 abbrev pub float : ℕ → Float
@@ -19,12 +30,10 @@ unfoldable pub lineThreshold : List ℕ → Float
 unfolding entry
 lineThreshold s =
     div binary32
-    (add binary32 (float (entry self 0 s (trunc (mul binary32 (ofBits binary32 0x3F59999A) (float (length s)))))) (mul binary32 (float (entry self 0 s (length s - 1))) (ofBits binary32 0x3F400000)))
+    (add binary32
+    (float (entry self 0 s (trunc (mul binary32 (ofBits binary32 0x3F59999A) (float (length s))))))
+    (mul binary32 (float (entry self 0 s (length s - 1))) (ofBits binary32 0x3F400000)))
     (ofBits binary32 0x40000000)
-
-abbrev pub largest : List ℕ → ℕ
-largest [] = 0
-largest (x ∷ l) = max x (largest l)
 
 -- the n entries before i, as far as there are so many, and the n after it
 abbrev pub before : ℕ → List ℕ → ℕ → List ℕ
@@ -45,14 +54,14 @@ abbrev pub countEqual : ℕ → List ℕ → ℕ
 countEqual v [] = 0
 countEqual v (x ∷ l) = cond (eqb x v) 1 0 + countEqual v l
 
--- place i of t is a line: t(i) ≥ th, none within 7 places is larger, and the equals before are those after, or one less
+-- of the entries before v and those after it none is larger, and the equals before are those after, or one less
+abbrev pub standsOut : ℕ → List ℕ → List ℕ → Bool
+standsOut v a b =
+    leb (largest a) v && (leb (largest b) v && (eqb (countEqual v a) (countEqual v b) || eqb (countEqual v a + 1) (countEqual v b)))
+
+-- place i of t is a line: t(i) ≥ th, and it stands out of the 7 places before and the 7 after
 unfoldable pub isLine : Float → List ℕ → ℕ → Bool
-isLine th t i =
-    let v = getD t i 0 in
-    let equalBefore = countEqual v (before 7 t i) in
-    let equalAfter = countEqual v (behind 7 t i) in
-    le th (float v)
-    && (leb (largest (before 7 t i)) v && (leb (largest (behind 7 t i)) v && (eqb equalBefore equalAfter || eqb (equalBefore + 1) equalAfter)))
+isLine th t i = le th (float (getD t i 0)) && standsOut (getD t i 0) (before 7 t i) (behind 7 t i)
 
 abbrev pub keep : (ℕ → Bool) → List ℕ → List ℕ
 keep p [] = []
@@ -92,3 +101,14 @@ dropLast e [] = []
 dropLast e (x ∷ []) = x ∷ []
 dropLast e (x ∷ y ∷ []) = cond (narrowGap e (y - x)) (x ∷ []) (x ∷ y ∷ [])
 dropLast e (x ∷ y ∷ z ∷ l) = x ∷ dropLast e (y ∷ z ∷ l)
+
+-- what the code hands back: `count` entries, the list at the front of what was lent
+pub record Listed (list : List ℕ) (count : ℕ) (lent out : List ℕ) : Type 0 where
+  pub counted : count ≡ length list
+  pub is : out ≡ list ++ drop count lent
+
+-- the lines that remain after both drops, as a part of the lines
+pub record Remains (e : ℕ) (lines : List ℕ) (from end : ℕ) : Type 0 where
+  pub rising : from ≤ end
+  pub inside : end ≤ length lines
+  pub is : take (end - from) (drop from lines) ≡ dropLast e (dropFirst e lines)

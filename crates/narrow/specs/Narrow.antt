@@ -1,11 +1,19 @@
 -- 01, "Narrowing", over the factor f: today 3.
-use Prim.Native.Nat.{ℕ, _+_, _-_, _*_, _/_}
-use mathlib.Core.List.{List, _++_}
+use Prim.Native.Nat.{ℕ, _+_, _-_, _*_, _/_, _≤_}
+use mathlib.Core.Bool.{true}
+use mathlib.Core.List.{List, [], _∷_, _++_}
+use mathlib.Core.Path.{_≡_}
 use lib.Ieee.{Float, nan, binary32, ofBits, toBits}
-use lib.ListN.{drop, replicate}
+use lib.ListN.{length, take, drop, replicate, getD}
 use Rattle.lists.specs.Tab.{grid}
 use Rattle.rank.specs.Rank.{entry}
 use Rattle.board.specs.Screen.{Screen, packed, view}
+use Rattle.gradient.specs.Gradient.{allUnits}
+use Rattle.narrow.specs.declared.Rising.{Rising}
+
+-- entry j of values sorted rising
+abbrev pub ranked : List Float → ℕ → Float
+ranked l j = entry (toBits binary32) nan l j
 
 -- the f by f block of the plane a that becomes the point (i, j)
 abbrev pub block : ℕ → (ℕ → ℕ → Float) → ℕ → ℕ → List Float
@@ -14,7 +22,7 @@ block f a i j = grid f f (λ u v. a (i * f + u) (j * f + v))
 -- the middle one of the block sorted rising: of nine the fifth smallest
 unfoldable pub median : ℕ → (ℕ → ℕ → Float) → ℕ → ℕ → Float
 unfolding entry
-median f a i j = entry (toBits binary32) nan (block f a i j) (f * f / 2)
+median f a i j = ranked (block f a i j) (f * f / 2)
 
 -- leftover rows and columns fall away
 abbrev pub narrowed : ℕ → Screen → Screen
@@ -25,3 +33,16 @@ abbrev pub narrow : ℕ → ℕ → ℕ → List Float → List Float
 narrow f h w planes =
     packed (narrowed f (view h w planes))
     ++ (replicate (3 * (h * w) - 3 * (h / f * (w / f))) (ofBits binary32 0) ++ drop (3 * (h * w)) planes)
+
+-- what is asked of the planes: they are there, and each of their values is a unit
+pub record UnitPlanes (h w : ℕ) (planes : List Float) : Type 0 where
+  pub there : 3 * (h * w) ≤ length planes
+  pub units : allUnits (take (3 * (h * w)) planes) ≡ true
+
+-- ---- a step of the code: three neighbours of a list, the first at `at`, and the same sorted rising
+
+abbrev pub neighbours : List Float → ℕ → List Float
+neighbours s at = getD s at nan ∷ getD s (at + 1) nan ∷ getD s (at + 2) nan ∷ []
+
+abbrev pub risingAt : List Float → ℕ → Rising
+risingAt s at = record { least = ranked (neighbours s at) 0; middle = ranked (neighbours s at) 1; most = ranked (neighbours s at) 2 }

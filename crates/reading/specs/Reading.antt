@@ -1,5 +1,5 @@
 -- 01, "Lines and votes" and the refusals of line reading: what a list of scores reads as.
-use Prim.Native.Nat.{ℕ, _+_, _-_, _*_}
+use Prim.Native.Nat.{ℕ, _+_, _-_, _*_, _≤_, _<_}
 use mathlib.Core.Bool.{Bool, cond, _||_}
 use mathlib.Core.List.{List}
 use lib.Dec.{leb, ltb, eqb}
@@ -11,7 +11,6 @@ use Rattle.reading.specs.declared.Reading.the-variants as Of
 use Rattle.reading.specs.declared.Quarters.{Quarters}
 use Rattle.reading.specs.declared.Quarters.the-variants as In
 use Rattle.lines.specs.Lines.{float, largest, linesOf, wideGaps, estimate, dropFirst, dropLast}
-use Rattle.votes.specs.declared.Choice.{Choice}
 use Rattle.votes.specs.Votes.{winner}
 
 -- e of a list of scores
@@ -30,15 +29,16 @@ pitchOf q = div binary32 (float q) (ofBits binary32 0x40800000)
 abbrev pub countOf : List ℕ → ℕ → ℕ
 countOf lines q = trunc (div binary32 (float (getD lines (length lines - 1) 0 - getD lines 0 0 + 2)) (pitchOf q))
 
-abbrev pub accepted : List ℕ → Choice → Quarters
-accepted lines w = In.Read (w .quarter) (w .offset) (countOf lines (w .quarter)) (w .votes)
+-- what the lines that remain read as, with their gap
+abbrev pub accepted : ℕ → List ℕ → Quarters
+accepted e lines = let w = winner e lines in In.Read (w .quarter) (w .offset) (countOf lines (w .quarter)) (w .votes)
 
 -- the reading of a list that is fit
 unfoldable pub quartersOf : List ℕ → Quarters
 unfolding linesOf estimate winner
 quartersOf s =
     cond (eqb (length (wideGaps (linesOf s))) 0) (In.Refused 6)
-    (cond (leb 206 (gapOf s)) (In.Refused 7) (accepted (remaining s) (winner (gapOf s) (remaining s))))
+    (cond (leb 206 (gapOf s)) (In.Refused 7) (accepted (gapOf s) (remaining s)))
 
 abbrev pub pitched : Quarters → Reading
 pitched (In.Read q offset count votes) = Of.Read (pitchOf q) offset count votes
@@ -56,3 +56,18 @@ readingOf s scratch =
 abbrev pub answerOf : Reading → ℕ
 answerOf (Of.Read pitch offset count votes) = 0
 answerOf (Of.Refused n) = n
+
+-- what `read_lines` asks of the lines that remain and of the row
+pub record Readable (e : ℕ) (lines : List ℕ) (room : ℕ) : Type 0 where
+  pub low : 6 ≤ e
+  pub high : e < 206
+  pub some : 0 < length lines
+  pub few : length lines ≤ 4096
+  pub entries : (k : ℕ) → getD lines k 0 ≤ 4095
+  pub rising : getD lines 0 0 ≤ getD lines (length lines - 1) 0
+  pub row : getD lines 0 0 + 8 ≤ room
+
+-- a pitch of at most 200, which `pitched_of` asks for
+abbrev pub Pitched : Quarters → Type 0
+Pitched (In.Read q offset count votes) = q ≤ 800
+Pitched (In.Refused n) = Unit

@@ -1,1 +1,392 @@
-// strips
+// Column and row scores (01, "Path scores"). Their promises rest on specs/Strip and specs/Walk. Laws for callers: proofs/Walks, proofs/Scores.
+// A lane's state is 5 and the steps so far, less the least cost: a set point adds 1, a sideways move takes 1 off, and none falls below 1.
+use bounds::Bounds;
+ghost use mathlib.Core.Path.{_≡_};
+ghost use mathlib.Core.Bool.{Bool};
+ghost use mathlib.Core.List.{_++_};
+ghost use Prim.Native.Nat.{ℕ, _≤_, _<_, _+_, _*_, _-_, max};
+ghost use lib.ListN.{length, getD, set, drop};
+ghost use Rattle.lists.specs.Tab.{tab};
+ghost use Rattle.lists.specs.Picture.{points};
+ghost use Rattle.strips.specs.Walk.{apart};
+ghost use Rattle.strips.specs.Strip.{at, onward, score, columnScores, rowScores};
+ghost use Rattle.strips.specs.States.{Marks, Scorable, Holds, Below, unset, Advanced, lanesOf, Stored, Swept, twoScores, bordered, Copied, Turned};
+
+// The lanes of up to 4096 strips: lane j of strip i at 4096 * j + i.
+type States = [u16; 20480];
+
+// Lanes 0 to 4 of one strip.
+struct Lanes {
+    a: u16,
+    b: u16,
+    c: u16,
+    d: u16,
+    e: u16,
+}
+
+fn most(a: u16, b: u16) -> u16
+    ensures { λ r. ⌜ r ≡ max a b ⌝ }
+{
+    if a > b { a } else { b }
+}
+
+fn less(x: u16) -> u16
+    ensures { λ r. ⌜ r ≡ x - 1 ⌝ }
+{
+    if x > 0 { x - 1 } else { 0 }
+}
+
+// Lane j with the point that it leaves from, where the points of a row start at o and lie `across` apart.
+fn with_point(e: &[u8], o: usize, across: usize, j: usize, x: u16) -> u16
+    requires { ⌜ (o + 4 * across < length (now e)) × Marks (now e) × (j ≤ 4) × (x ≤ 60000) ⌝ }
+    ensures { λ r. ⌜ ((n c : ℕ) → x + c ≡ n → r + (c + unset (now (e .entry)) (o + j * across)) ≡ n + 1) ⌝ }
+{
+    x + e[o + j * across] as u16
+}
+
+fn with_points(e: &[u8], o: usize, across: usize, v: Lanes) -> Lanes
+    requires { ⌜ (o + 4 * across < length (now e)) × Marks (now e) × (v .a + v .b + v .c + v .d + v .e ≤ 60000) ⌝ }
+    ensures { λ r. ⌜ ((n : ℕ) (cost : ℕ → ℕ) → Holds n cost v → Holds (n + 1) (λ j. cost j + unset (now (e .entry)) (o + j * across)) r) ⌝ }
+{
+    Lanes {
+        a: with_point(e, o, across, 0, v.a),
+        b: with_point(e, o, across, 1, v.b),
+        c: with_point(e, o, across, 2, v.c),
+        d: with_point(e, o, across, 3, v.d),
+        e: with_point(e, o, across, 4, v.e),
+    }
+}
+
+// A lane from itself or from a lane beside it.
+fn best(own: u16, left: u16, right: u16) -> u16
+    ensures { λ r. ⌜ r ≡ max own (max left right - 1) ⌝ }
+{
+    most(own, less(most(left, right)))
+}
+
+// A border lane has one neighbour.
+fn sideways(v: Lanes) -> Lanes
+    ensures { λ r. ⌜ ((n : ℕ) (cost : ℕ → ℕ) → Below n cost → Holds n cost v → Holds n (onward cost) r) ⌝ }
+{
+    Lanes {
+        a: best(v.a, v.b, v.b),
+        b: best(v.b, v.a, v.c),
+        c: best(v.c, v.b, v.d),
+        d: best(v.d, v.c, v.e),
+        e: best(v.e, v.d, v.d),
+    }
+}
+
+// One row on. The point of the new row is looked at in the old lane.
+fn advanced(e: &[u8], o: usize, across: usize, v: Lanes) -> Lanes
+    requires { ⌜ (o + 4 * across < length (now e)) × Marks (now e) × (v .a + v .b + v .c + v .d + v .e ≤ 60000) ⌝ }
+    ensures { λ r. ⌜ Advanced (now (e .entry)) o across v r ⌝ }
+{
+    sideways(with_points(e, o, across, v))
+}
+
+// 5 less how far a lane lies from the target.
+fn near(j: u16, k: u16) -> u16
+    requires { ⌜ (j ≤ 4) × (k ≤ 4) ⌝ }
+    ensures { λ r. ⌜ r + apart j k ≡ 5 ⌝ }
+{
+    if j < k { 5 + j - k } else { 5 + k - j }
+}
+
+// The lanes before the first step.
+fn start(k: u16) -> Lanes
+    requires { ⌜ k ≤ 4 ⌝ }
+    ensures { λ r. ⌜ Holds 5 (λ j. apart j k) r ⌝ }
+{
+    Lanes {
+        a: near(0, k),
+        b: near(1, k),
+        c: near(2, k),
+        d: near(3, k),
+        e: near(4, k),
+    }
+}
+
+fn lane(v: Lanes, k: u16) -> u16
+    requires { ⌜ k ≤ 4 ⌝ }
+    ensures { λ r. ⌜ ((n : ℕ) (cost : ℕ → ℕ) → Holds n cost v → r + cost k ≡ n) ⌝ }
+{
+    if k == 0 {
+        v.a
+    } else if k == 1 {
+        v.b
+    } else if k == 2 {
+        v.c
+    } else if k == 3 {
+        v.d
+    } else {
+        v.e
+    }
+}
+
+// A score: what its lane holds above 5.
+fn above(x: u16) -> u32
+    requires { ⌜ 5 ≤ x ⌝ }
+    ensures { λ r. ⌜ r ≡ x - 5 ⌝ }
+{
+    (x - 5) as u32
+}
+
+// One strip by itself, walked down row by row.
+fn strip_score(
+    e: &[u8],
+    down: usize,
+    across: usize,
+    from: usize,
+    to: usize,
+    c: usize,
+    k: u16,
+) -> u32
+    requires { ⌜ (from ≤ to) × (to ≤ 4096) × (to * down + (c + 4) * across < length (now e)) × Marks (now e) × (k ≤ 4) ⌝ }
+    ensures { λ r. ⌜ r ≡ score (points down across (now (e .entry))) from to (at c k) ⌝ }
+{
+    let mut v = start(k);
+    let steps = to - from;
+    for t in 0..steps {
+        v = advanced(e, (from + (t + 1)) * down + c * across, across, v);
+    }
+    above(lane(v, k))
+}
+
+fn lanes_at(st: &States, i: usize) -> Lanes
+    requires { ⌜ i < 4096 ⌝ }
+    ensures { λ r. ⌜ r ≡ lanesOf (now (st .entry)) i ⌝ }
+{
+    Lanes {
+        a: st[i],
+        b: st[4096 + i],
+        c: st[8192 + i],
+        d: st[12288 + i],
+        e: st[16384 + i],
+    }
+}
+
+fn put(st: &mut States, i: usize, v: Lanes)
+    requires { ⌜ (i < 4096) × (length (now st) ≡ 20480) ⌝ }
+    ensures { λ _. ⌜ Stored (now (st .entry)) i v (now (st .exit)) ⌝ }
+{
+    st[i] = v.a;
+    st[4096 + i] = v.b;
+    st[8192 + i] = v.c;
+    st[12288 + i] = v.d;
+    st[16384 + i] = v.e;
+}
+
+// All strips before the first step.
+fn starts(st: &mut States, m: usize)
+    requires { ⌜ (m ≤ 4096) × (length (now st) ≡ 20480) ⌝ }
+    ensures { λ _. ⌜ ((E : ℕ → ℕ → Bool) (from c : ℕ) → Swept E from c m 0 (now (st .exit))) ⌝ }
+{
+    for i in 0..m {
+        put(st, i, start(2));
+    }
+}
+
+// One row, all strips: the compiler packs this loop.
+fn sweep_row(e: &[u8], stride: usize, from: usize, t: usize, c: usize, m: usize, st: &mut States)
+    requires { ⌜ (m ≤ 4096) × (from + t < 4096) × ((from + (t + 1)) * stride + c + m + 4 ≤ length (now e)) × Marks (now e)
+        × Swept (points stride 1 (now e)) from c m t (now st) ⌝ }
+    ensures { λ _. ⌜ Swept (points stride 1 (now (e .entry))) from c m (t + 1) (now (st .exit)) ⌝ }
+{
+    let o = (from + (t + 1)) * stride + c;
+    for i in 0..m {
+        let v = advanced(e, o + i, 1, lanes_at(st, i));
+        put(st, i, v);
+    }
+}
+
+// All rows, so that each row of the picture is read once.
+fn sweep(e: &[u8], stride: usize, from: usize, steps: usize, c: usize, m: usize, st: &mut States)
+    requires { ⌜ (m ≤ 4096) × (from + steps ≤ 4096) × ((from + steps) * stride + c + m + 4 ≤ length (now e)) × Marks (now e)
+        × Swept (points stride 1 (now e)) from c m 0 (now st) ⌝ }
+    ensures { λ _. ⌜ Swept (points stride 1 (now (e .entry))) from c m steps (now (st .exit)) ⌝ }
+{
+    for t in 0..steps {
+        sweep_row(e, stride, from, t, c, m, st);
+    }
+}
+
+fn middle_lanes(st: &States, out: &mut [u32])
+    requires { ⌜ (length (now out) ≤ 4096) × ((i : ℕ) → i < length (now out) → 5 ≤ getD (now st) (8192 + i) 0) ⌝ }
+    ensures { λ _. ⌜ now (out .exit) ≡ tab (length (now (out .entry))) (λ i. getD (now (st .entry)) (8192 + i) 0 - 5) ⌝ }
+{
+    for i in 0..out.len() {
+        out[i] = above(st[8192 + i]);
+    }
+}
+
+// The strips from column c on, one for each entry of `out`, all with target lane 2.
+fn sweep_scores(e: &[u8], stride: usize, from: usize, to: usize, c: usize, out: &mut [u32])
+    requires { ⌜ (from ≤ to) × (to ≤ 4096) × (length (now out) ≤ 4096) × (to * stride + c + length (now out) + 4 ≤ length (now e)) × Marks (now e) ⌝ }
+    ensures { λ _. ⌜ now (out .exit) ≡ tab (length (now (out .entry))) (λ i. score (points stride 1 (now (e .entry))) from to (at (c + i) 2)) ⌝ }
+{
+    let mut st: States = [0; 20480];
+    starts(&mut st, out.len());
+    sweep(e, stride, from, to - from, c, out.len(), &mut st);
+    middle_lanes(&st, out);
+}
+
+// Target lanes k and k + 1 of one strip, on either axis, into entries i and i + 1.
+fn two_scores(
+    e: &[u8],
+    down: usize,
+    across: usize,
+    from: usize,
+    to: usize,
+    c: usize,
+    k: u16,
+    i: usize,
+    out: &mut [u32],
+)
+    requires { ⌜ (from ≤ to) × (to ≤ 4096) × (to * down + (c + 4) * across < length (now e)) × Marks (now e) × (k ≤ 3)
+        × (i + 1 < length (now out)) ⌝ }
+    ensures { λ _. ⌜ now (out .exit) ≡ twoScores (points down across (now (e .entry))) from to c k i (now (out .entry)) ⌝ }
+{
+    out[i] = strip_score(e, down, across, from, to, c, k);
+    out[i + 1] = strip_score(e, down, across, from, to, c, k + 1);
+}
+
+// The first strip's lanes 0 and 1, the last strip's lanes 3 and 4.
+fn border_scores(
+    e: &[u8],
+    down: usize,
+    across: usize,
+    from: usize,
+    to: usize,
+    c_1: usize,
+    c_2: usize,
+    out: &mut [u32],
+)
+    requires { ⌜ (from ≤ to) × (to ≤ 4096) × (to * down + c_2 * across < length (now e)) × Marks (now e) × (c_1 + 4 ≤ c_2)
+        × (c_2 - c_1 ≤ length (now out)) ⌝ }
+    ensures { λ _. ⌜ now (out .exit) ≡ bordered (points down across (now (e .entry))) from to c_1 c_2 (now (out .entry)) ⌝ }
+{
+    two_scores(e, down, across, from, to, c_1, 0, 0, out);
+    two_scores(e, down, across, from, to, c_2 - 4, 3, c_2 - c_1 - 2, out);
+}
+
+// The scores of columns c_1 to c_2 over rows r_1 to r_2; the points lie rows first, `stride` to a row.
+pub fn column_scores(edges: &[u8], stride: usize, b: Bounds, out: &mut [u32])
+    requires { ⌜ Scorable (now edges) stride b × (b .«c_2» - b .«c_1» ≤ length (now out)) ⌝ }
+    ensures { λ _. ⌜ now (out .exit) ≡ columnScores (points stride 1 (now (edges .entry))) b ++ drop (b .«c_2» - b .«c_1») (now (out .entry)) ⌝ }
+{
+    let last = b.c_2 - b.c_1 - 2;
+    sweep_scores(edges, stride, b.r_1, b.r_2, b.c_1, &mut out[2..last]);
+    border_scores(edges, stride, 1, b.r_1, b.r_2, b.c_1, b.c_2, out);
+}
+
+// w bytes, `stride` apart, side by side from o on.
+fn copy_down(e: &[u8], first: usize, stride: usize, w: usize, t: &mut [u8], o: usize)
+    requires { ⌜ (first + w * stride < length (now e) + stride) × (o + w ≤ length (now t)) ⌝ }
+    ensures { λ _. ⌜ Copied (now (e .entry)) first stride w o (now (t .entry)) (now (t .exit)) ⌝ }
+{
+    for d in 0..w {
+        t[o + d] = e[first + d * stride];
+    }
+}
+
+// w rows of n bytes become places i to i + w of n rows of b bytes.
+fn turn_rows(
+    e: &[u8],
+    first: usize,
+    stride: usize,
+    n: usize,
+    t: &mut [u8],
+    b: usize,
+    i: usize,
+    w: usize,
+)
+    requires { ⌜ (first + n + w * stride ≤ length (now e) + stride) × (stride ≤ length (now e)) × (n * b ≤ length (now t)) × (i + w ≤ b) ⌝ }
+    ensures { λ _. ⌜ Turned (now (e .entry)) first stride n b i w (now (t .entry)) (now (t .exit)) ⌝ }
+{
+    for j in 0..n {
+        copy_down(e, first + j, stride, w, t, j * b + i);
+    }
+}
+
+// b rows of n bytes become n rows of b bytes, eight at a time: the compiler unrolls that, and wide pictures stay fast.
+fn turn(e: &[u8], first: usize, stride: usize, n: usize, t: &mut [u8], b: usize)
+    requires { ⌜ (first + n + b * stride ≤ length (now e) + stride) × (stride ≤ length (now e)) × (n * b ≤ length (now t)) ⌝ }
+    ensures { λ _. ⌜ Turned (now (e .entry)) first stride n b 0 b (now (t .entry)) (now (t .exit)) ⌝ }
+{
+    let mut i = 0;
+    while 8 <= b - i {
+        turn_rows(e, first + i * stride, stride, n, t, b, i, 8);
+        i += 8;
+    }
+    turn_rows(e, first + i * stride, stride, n, t, b, i, b - i);
+}
+
+// Row strips from row r on, one for each entry of `out`, over columns from to `to`: turned, they are column strips.
+fn band_scores(
+    e: &[u8],
+    stride: usize,
+    from: usize,
+    to: usize,
+    r: usize,
+    turned: &mut [u8],
+    out: &mut [u32],
+)
+    requires { ⌜ (from ≤ to) × (to ≤ 4096) × (length (now out) ≤ 4096) × ((r + length (now out) + 3) * stride + to < length (now e))
+        × ((to - from + 1) * (length (now out) + 4) ≤ length (now turned)) × Marks (now e) ⌝ }
+    ensures { λ _. ⌜ now (out .exit) ≡ tab (length (now (out .entry))) (λ i. score (points 1 stride (now (e .entry))) from to (at (r + i) 2)) ⌝ }
+{
+    let n = to - from + 1;
+    let b = out.len() + 4;
+    let end = n * b;
+    turn(e, r * stride + from, stride, n, turned, b);
+    sweep_scores(&turned[..end], b, 0, to - from, 0, out);
+}
+
+fn shorter(a: usize, b: usize) -> usize
+    requires { ⌜ (0 < a) × (0 < b) ⌝ }
+    ensures { λ r. ⌜ (0 < r) × (r ≤ a) × (r ≤ b) ⌝ }
+{
+    if a < b { a } else { b }
+}
+
+// The same in bands of at most 128 strips: a turned band and its states then stay in the cache, and scratch stays small.
+fn banded_scores(
+    e: &[u8],
+    stride: usize,
+    from: usize,
+    to: usize,
+    r: usize,
+    turned: &mut [u8],
+    out: &mut [u32],
+)
+    requires { ⌜ (from ≤ to) × (to ≤ 4096) × (r ≤ 4096) × ((r + length (now out) + 3) * stride + to < length (now e))
+        × ((to - from + 1) * (length (now out) + 4) ≤ length (now turned)) × Marks (now e) ⌝ }
+    ensures { λ _. ⌜ now (out .exit) ≡ tab (length (now (out .entry))) (λ i. score (points 1 stride (now (e .entry))) from to (at (r + i) 2)) ⌝ }
+{
+    let mut i = 0;
+    while i < out.len() {
+        let end = i + shorter(out.len() - i, 128);
+        band_scores(e, stride, from, to, r + i, turned, &mut out[i..end]);
+        i = end;
+    }
+}
+
+// The scores of rows r_1 to r_2 over columns c_1 to c_2: the columns of the flipped picture. `turned` is scratch.
+pub fn row_scores(edges: &[u8], stride: usize, b: Bounds, turned: &mut [u8], out: &mut [u32])
+    requires { ⌜ Scorable (now edges) stride b × ((b .«c_2» - b .«c_1» + 1) * (b .«r_2» - b .«r_1») ≤ length (now turned))
+        × (b .«r_2» - b .«r_1» ≤ length (now out)) ⌝ }
+    ensures { λ _. ⌜ now (out .exit) ≡ rowScores (points stride 1 (now (edges .entry))) b ++ drop (b .«r_2» - b .«r_1») (now (out .entry)) ⌝ }
+{
+    let last = b.r_2 - b.r_1 - 2;
+    banded_scores(
+        edges,
+        stride,
+        b.c_1,
+        b.c_2,
+        b.r_1,
+        turned,
+        &mut out[2..last],
+    );
+    border_scores(edges, 1, stride, b.c_1, b.c_2, b.r_1, b.r_2, out);
+}

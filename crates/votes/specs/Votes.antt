@@ -1,5 +1,6 @@
 -- 01, "Lines and votes", second paragraph: the searched range, the votes and the winner.
 use Prim.Native.Nat.{ℕ, zero, suc, _+_, _-_, _*_, _/_, _≤_, min, max}
+use mathlib.Core.Path.{_≡_}
 use mathlib.Core.Bool.{cond}
 use mathlib.Core.List.{List, [], _∷_}
 use lib.Dec.{eqb, ltb}
@@ -52,3 +53,15 @@ overOffsets e lines offset (suc count) best =
 -- most votes wins, then the smallest offset, then the smallest q
 unfoldable pub winner : ℕ → List ℕ → Choice
 winner e lines = overOffsets e lines 0 (suc (lastOffset lines)) (record { votes = 0; offset = 0; quarter = 0 })
+
+-- a is b or comes before it: more votes, or as many and the smaller offset, or the same offset too and the smaller q
+pub record Ahead (a b : Choice) : Type 0 where
+  pub votes : b .votes ≤ a .votes
+  pub offset : b .votes ≡ a .votes → a .offset ≤ b .offset
+  pub quarter : b .votes ≡ a .votes → b .offset ≡ a .offset → a .quarter ≤ b .quarter
+
+-- the same said of a choice by itself: it is searched, its votes are counted from the lines, and it is ahead of every pair of the range
+pub record Wins (lines : List ℕ) (e : ℕ) (w : Choice) : Type 0 where
+  pub in-range : Searched lines e (w .offset) (w .quarter)
+  pub counted : votes e lines (w .offset) (w .quarter) ≡ w .votes
+  pub best : (offset q : ℕ) → Searched lines e offset q → Ahead w (record { votes = votes e lines offset q; offset = offset; quarter = q })

@@ -1,0 +1,43 @@
+-- What callers know of the edge bytes: that gradients of units meet what `edges_of` requires, how many bytes there are, and that each is 0 or 1.
+-- Assumes nothing.
+use Prim.Native.Nat.{ℕ, _-_, _*_, _≤_}
+use mathlib.Core.Path.{_≡_, refl}
+use mathlib.Core.Bool.{Bool, true, false}
+use mathlib.Core.List.{List}
+use native.Mathlib.Omega.{arith}
+use borrow.Author.Tests.{ltb-true, ltb-false}
+use lib.Dec.{ltb}
+use lib.Ieee.{Float, nan, le}
+use lib.ListN.{length, getD, take, List·getD-eq-default}
+use Rattle.lists.specs.Picture.{bit}
+use Rattle.lists.proofs.Fill.{getD-tab, length-tabFrom}
+use Rattle.lists.proofs.Picture.{bit-le}
+use Rattle.binary32.proofs.Plain.{plain-bits}
+use Rattle.board.specs.Board.{leastPlaneSide, sidesOutside}
+use Rattle.gradient.specs.Gradient.{gradients, allUnits}
+use Rattle.gradient.proofs.Laws.{length-gradients, gradients-plain}
+use Rattle.edges.specs.Edges.{threshold, marks, edges, AllPlain}
+
+pub all-plain : (h w : ℕ) (planes : List Float) → sidesOutside leastPlaneSide h w ≡ false → 3 * (h * w) ≤ length planes
+    → allUnits (take (3 * (h * w)) planes) ≡ true → AllPlain (gradients h w planes)
+all-plain h w planes s l u k b = plain-bits _ (gradients-plain planes h w l u k s (omega (arith, length-gradients h w planes)))
+
+-- the bytes of the planes' gradients are their edge picture
+pub edges-of-gradients : (h w row column : ℕ) (planes g : List Float) → row ≡ h - 2 → column ≡ w - 2 → g ≡ gradients h w planes
+    → marks (threshold row column g) (row * column) g ≡ edges h w planes
+edges-of-gradients h w row column planes g r c e = rw (r, c, e)
+
+pub length-edges : (h w : ℕ) (planes : List Float) → length (edges h w planes) ≡ (h - 2) * (w - 2)
+length-edges h w planes = length-tabFrom 0 ((h - 2) * (w - 2)) _
+
+mark-le : (th : Float) (n : ℕ) (g : List Float) (k : ℕ) → getD (marks th n g) k 0 ≤ 1
+mark-le th n g k = at (ltb k n) refl
+  where
+    at : (t : Bool) → ltb k n ≡ t → getD (marks th n g) k 0 ≤ 1
+    at true e = rw (getD-tab n k (λ k. bit (le th (getD g k nan))) 0 (ltb-true k n e)) (bit-le (le th (getD g k nan)))
+    at false e =
+        let l : length (marks th n g) ≤ k = omega (arith, ltb-false k n e, length-tabFrom 0 n (λ k. bit (le th (getD g k nan)))) in
+        omega (arith, List·getD-eq-default (marks th n g) 0 l)
+
+pub edge-le : (h w : ℕ) (planes : List Float) (k : ℕ) → getD (edges h w planes) k 0 ≤ 1
+edge-le h w planes k = mark-le (threshold (h - 2) (w - 2) (gradients h w planes)) ((h - 2) * (w - 2)) (gradients h w planes) k

@@ -1,0 +1,9 @@
+pub mod Collecting
+pub mod Drops
+pub mod Entries
+pub mod Laws
+pub mod Members
+pub mod Rising
+pub mod Rounding
+pub mod Smoothing
+pub mod Windows

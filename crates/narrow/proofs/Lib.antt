@@ -1,0 +1,5 @@
+pub mod AllUnits
+pub mod Block
+pub mod Laws
+pub mod Network
+pub mod Packed

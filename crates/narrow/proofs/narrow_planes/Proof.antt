@@ -1,0 +1,113 @@
+-- `narrow::narrow_planes` meets its contract. The invariant: the first r rows of the narrowed planes are there, and the rest is as it was.
+-- What is left of the rows falls.
+use Prim.Native.Nat.{_+_, _-_, _*_, _/_, _≤_}
+use mathlib.Core.Path.{_≡_, refl}
+use native.Mathlib.Nat.{zero-mul, mul-assoc, div-lt-iff-lt-mul, mod-lt}
+use native.Mathlib.Omega.{arith}
+use denote.Ref.{now}
+use lib.ListN.{length-drop}
+use Rattle.lists.proofs.Fill.{Filled, filled-none}
+use Rattle.lists.proofs.Part.{mid-rest}
+use Rattle.board.specs.Screen.{view}
+use Rattle.narrow.specs.Narrow.{narrowed}
+use Rattle.narrow.proofs.Packed.{cell, filled-row, row-fits}
+use borrow.Author.Needs.{needs}
+use Rattle.narrow.proofs.narrow_planes.Statement.{statement}
+use Rattle.narrow.proofs.narrow_planes.Tie as tie
+
+abbrev Inv-loop : tie.InvT-loop
+Inv-loop height width planes out₀ rows columns r₀ r-end out r =
+    (r ≤ 3 * (height / 3)) × (r-end ≡ 3 * (height / 3)) × Filled (cell (narrowed 3 (view height width planes))) (r * (width / 3)) out₀ out
+
+abbrev μ-loop : tie.MeasureT-loop
+μ-loop height width planes out₀ rows columns r₀ r-end out r = 3 * (height / 3) - r
+
+mul-r-end : tie.Need-mul-r-end Inv-loop μ-loop
+mul-r-end c = search needs
+
+loop-holds : tie.Need-loop-holds Inv-loop μ-loop
+loop-holds c = (omega arith, refl, rw zero-mul filled-none)
+
+-- the row lies within the room of one old plane
+place : (c : tie.In-loop Inv-loop μ-loop) →
+    c .before .loop .r * (c .before .before .before .before .args .width / 3) + c .before .before .before .before .args .width / 3
+    ≤ c .before .before .before .before .args .height * c .before .before .before .before .args .width
+place c = row-fits (c .before .before .before .before .args .height) (c .before .before .before .before .args .width) (c .loop-test .taken)
+
+mul-from : tie.Need-mul-from Inv-loop μ-loop
+mul-from c = omega (arith, place c)
+
+div-narrow-row : tie.Need-div-narrow-row Inv-loop μ-loop
+div-narrow-row c = search needs
+
+rem-narrow-row : tie.Need-rem-narrow-row Inv-loop μ-loop
+rem-narrow-row c = search needs
+
+mul-narrow-row : tie.Need-mul-narrow-row Inv-loop μ-loop
+mul-narrow-row c = omega (arith, place c)
+
+sub-narrow-row : tie.Need-sub-narrow-row Inv-loop μ-loop
+sub-narrow-row c = omega (arith, place c)
+
+part-narrow-row-start : tie.Need-part-narrow-row-start Inv-loop μ-loop
+part-narrow-row-start c = omega (arith, place c)
+
+part-narrow-row-end : tie.Need-part-narrow-row-end Inv-loop μ-loop
+part-narrow-row-end c = search needs
+
+narrow-row-requires : tie.Need-narrow-row-requires Inv-loop μ-loop
+narrow-row-requires c κs =
+    let a = c .before .before .before .before .before .args in
+    let out = c .before .before .loop .out in
+    let from = c .before .before .loop .r * (a .width / 3) in (
+      c .before .before .before .before .before .pre .0,
+      div-lt-iff-lt-mul {k = a .height / 3} {x = c .before .before .loop .r} {y = 3} (omega arith) .1 (c .before .loop-test .taken),
+      mod-lt (c .before .before .loop .r) (omega arith),
+      rw (mid-rest from out, length-drop) (omega (arith, place (c .before))),
+    )
+
+add-r : tie.Need-add-r Inv-loop μ-loop
+add-r c = search needs
+
+loop-less : tie.Need-loop-less Inv-loop μ-loop
+loop-less c = search needs
+
+loop-again : tie.Need-loop-again Inv-loop μ-loop
+loop-again c =
+    let a = c .before .before .before .before .before .before .before .before .args in
+    let l = c .before .before .before .before .before .loop in
+    let s = narrowed 3 (view (a .height) (a .width) (now (a .planes))) in
+    let e = c .before .before .narrow-row .ensures in
+    (omega arith, refl, filled-row s (l .r) _ (omega arith) (l .inv .2) (omega (arith, place (c .before .before .before .before))) e)
+
+same-length : tie.Need-same-length Inv-loop μ-loop
+same-length c = search needs
+
+returns : tie.Need-returns Inv-loop μ-loop
+returns c =
+    let a = c .before .before .before .before .args in
+    let r : c .before .loop .r ≡ 3 * (a .height / 3) = omega arith in
+    let e : c .before .loop .r * (a .width / 3) ≡ 3 * (a .height / 3 * (a .width / 3)) = rw r (mul-assoc 3 (a .height / 3) (a .width / 3)) in
+    rw e at (c .before .loop .inv .2 .is)
+
+pub narrow-planes-spec : {M : Type 1} → statement M
+narrow-planes-spec =
+    tie.close
+    (tie.spec
+    Inv-loop
+    μ-loop
+    mul-r-end
+    loop-holds
+    mul-from
+    div-narrow-row
+    rem-narrow-row
+    mul-narrow-row
+    sub-narrow-row
+    part-narrow-row-start
+    part-narrow-row-end
+    narrow-row-requires
+    add-r
+    loop-less
+    loop-again
+    same-length
+    returns)

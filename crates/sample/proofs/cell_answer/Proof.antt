@@ -1,0 +1,83 @@
+-- `sample::cell_answer` meets its contract: each test is the rule's, in its order, and what was passed bounds the numbers that the places are made of.
+use mathlib.Core.Path.{_≡_, sym, _∙_}
+use mathlib.Core.Bool.{false, cond, _&&_, _||_}
+use native.Mathlib.Omega.{arith}
+use borrow.Author.Tests.{lt-ltb}
+use Rattle.sample.specs.Sample.{pitchOutside, numbersAbove, cellAnswer}
+use Rattle.sample.proofs.Answers.{Within, within, decided}
+use Rattle.sample.proofs.cell_answer.Statement.{statement}
+use Rattle.sample.proofs.cell_answer.Tie as tie
+
+-- what the tests that were passed tell
+pitches : (c : tie.Else1) → let b = c .before .before .before .args .b in (pitchOutside (b .pixelr) || pitchOutside (b .pixelc)) ≡ false
+pitches c = rw (sym (c .before .before .pitch-outside .ensures), sym (c .before .pitch-outside2 .ensures)) (c .if1 .left)
+
+above : (c : tie.Else2) → let s = c .before .before .before .before .before .args in let b = s .b in
+    numbersAbove (s .x) (s .y) (b .«r_1») (b .«c_1») (b .r0) (b .c0) (s .size) ≡ false
+above c = sym (c .before .numbers-above .ensures) ∙ c .if2 .left
+
+numbers : (c : tie.Else2) → let s = c .before .before .before .before .before .args in let b = s .b in
+    Within (s .x) (s .y) (b .«r_1») (b .«c_1») (b .r0) (b .c0) (s .size)
+numbers c = within _ _ _ _ _ _ _ (above c)
+
+places : (c : tie.After-inside2) → let s = c .before .before .before .before .before .before .before .before .args in
+    cellAnswer (s .b) (s .x) (s .y) (s .size) (s .room) ≡ cond (c .before .inside .result && c .inside2 .result) 0 12
+places c =
+    let at = c .before .before .before in
+    rw (c .before .inside .ensures, c .inside2 .ensures) (decided _ _ _ _ _ (pitches (at .before .before)) (above at) (c .before .before .if3 .left))
+
+pitch-outside-requires : tie.Need-pitch-outside-requires
+pitch-outside-requires c κs = tt
+
+pitch-outside-requires-2 : tie.Need-pitch-outside-requires-2
+pitch-outside-requires-2 c κs = tt
+
+returns : tie.Need-returns
+unfolding cellAnswer
+returns c = rw (sym (c .before .before .pitch-outside .ensures), sym (c .before .pitch-outside2 .ensures), c .if1 .taken)
+
+numbers-above-requires : tie.Need-numbers-above-requires
+numbers-above-requires c κs = tt
+
+returns-2 : tie.Need-returns-2
+unfolding cellAnswer
+returns-2 c = rw (pitches (c .before .before), sym (c .before .numbers-above .ensures) ∙ c .if2 .taken)
+
+mul-if3 : tie.Need-mul-if3
+mul-if3 c = omega (arith, numbers c .square)
+
+mul-if3-2 : tie.Need-mul-if3-2
+mul-if3-2 c = omega (arith, numbers c .square)
+
+returns-3 : tie.Need-returns-3
+unfolding cellAnswer
+returns-3 c = rw (pitches (c .before .before .before), above (c .before), lt-ltb _ _ (c .if3 .taken))
+
+inside-requires : tie.Need-inside-requires
+inside-requires c κs = numbers (c .before) .down
+
+inside-requires-2 : tie.Need-inside-requires-2
+inside-requires-2 c κs = numbers (c .before .before) .across
+
+returns-4 : tie.Need-returns-4
+returns-4 c = rw (places (c .before), c .if4 .taken)
+
+returns-5 : tie.Need-returns-5
+returns-5 c = rw (places (c .before), c .if4 .left)
+
+pub cell-answer-spec : {M : Type 1} → statement M
+cell-answer-spec =
+    tie.close
+    (tie.spec
+    pitch-outside-requires
+    pitch-outside-requires-2
+    returns
+    numbers-above-requires
+    returns-2
+    mul-if3
+    mul-if3-2
+    returns-3
+    inside-requires
+    inside-requires-2
+    returns-4
+    returns-5)

@@ -1,0 +1,108 @@
+-- `sample::copy_cell` meets its contract. The loop's invariant: the planes passed are filled by the cell's rule. What falls: the planes left.
+use Prim.Native.Nat.{_+_, _-_, _*_, _≤_}
+use mathlib.Core.Path.{_≡_}
+use native.Mathlib.Nat.{zero-mul}
+use native.Mathlib.Omega.{arith}
+use lib.ListN.{length}
+use Rattle.sample.specs.Copy.{Extends}
+use Rattle.sample.proofs.Answers.{Fit, fit}
+use Rattle.sample.proofs.Cells.{cellValue, Placed, place-in, value-is}
+use Rattle.sample.proofs.Copies.{row-in, extends-none, extends-row, extends-whole}
+use borrow.Author.Needs.{needs}
+use Rattle.sample.proofs.copy_cell.Statement.{statement}
+use Rattle.sample.proofs.copy_cell.Tie as tie
+
+abbrev Inv-loop : tie.InvT-loop
+Inv-loop b planes x y size out₀ rows columns k₀ out k = (k ≤ 3) × Extends (k * (size * size)) 0 (cellValue b planes x y size) out₀ out
+
+abbrev μ-loop : tie.MeasureT-loop
+μ-loop b planes x y size out₀ rows columns k₀ out k = 3 - k
+
+-- what the answer 0 tells, and the places
+fits : (c : tie.After-slice-known Inv-loop μ-loop) → let s = c .before .before .args in
+    Fit (s .b) (s .x) (s .y) (s .size) (length (s .out .now))
+fits c = fit _ _ _ _ _ (c .before .before .pre .1)
+
+placed : (c : tie.After-places2 Inv-loop μ-loop) → let s = c .before .before .before .before .args in
+    Placed (s .b) (s .x) (s .y) (s .size) (length (s .out .now)) (c .before .places .result) (c .places2 .result)
+placed c = record { fit = fits (c .before .before); rows-are = c .before .places .ensures; columns-are = c .places2 .ensures }
+
+-- a plane has its place in the output
+room : (c : tie.In-loop Inv-loop μ-loop) → let s = c .before .before .before .before .before .before .args in
+    c .before .loop .k * (s .size * s .size) + s .size * s .size ≤ length (s .out .now)
+room c =
+    let n = c .before .before .before .before .before .before .args .size in
+    omega (arith, row-in (n * n) (c .loop-test .taken), placed (c .before .before) .fit .output)
+
+places-requires : tie.Need-places-requires Inv-loop μ-loop
+places-requires c κs = fits c .numbers .down
+
+places-requires-2 : tie.Need-places-requires-2 Inv-loop μ-loop
+places-requires-2 c κs = fits (c .before) .numbers .across
+
+loop-holds : tie.Need-loop-holds Inv-loop μ-loop
+loop-holds c = (omega arith, rw zero-mul (extends-none _ _))
+
+mul-copy-plane : tie.Need-mul-copy-plane Inv-loop μ-loop
+mul-copy-plane c = omega arith
+
+mul-copy-plane-2 : tie.Need-mul-copy-plane-2 Inv-loop μ-loop
+mul-copy-plane-2 c =
+    let s = c .before .before .before .before .before .before .before .args .b in
+    omega (arith, row-in (s .height * s .width) (c .before .loop-test .taken))
+
+mul-copy-plane-3 : tie.Need-mul-copy-plane-3 Inv-loop μ-loop
+mul-copy-plane-3 c = omega (arith, room (c .before .before .before .before))
+
+mul-copy-plane-4 : tie.Need-mul-copy-plane-4 Inv-loop μ-loop
+mul-copy-plane-4 c = omega (arith, room (c .before .before .before .before))
+
+copy-plane-requires : tie.Need-copy-plane-requires Inv-loop μ-loop
+copy-plane-requires c κs =
+    let at = c .before .before .before .before in
+    let s = at .before .before .before .before .before .before in
+    let here = placed (at .before .before) in (
+      (here .fit .numbers .down .size-in, omega (arith, room at)),
+      λ i j i-in j-in. place-in (s .args .planes .now) here (at .before .loop .k) i j (s .pre .0) (omega arith) i-in j-in,
+    )
+
+add-k : tie.Need-add-k Inv-loop μ-loop
+add-k c = search needs
+
+loop-less : tie.Need-loop-less Inv-loop μ-loop
+loop-less c = search needs
+
+loop-again : tie.Need-loop-again Inv-loop μ-loop
+loop-again c =
+    let at = c .before .before .before .before .before .before .before .before in
+    let s = at .before .before .before .before .before .args in (
+      omega arith,
+      extends-row _ _ (at .loop .k) (s .size * s .size) (at .loop .inv .1) (c .before .before .copy-plane .ensures) (omega arith)
+          (λ n b. value-is (s .planes .now) (placed (at .before)) (at .loop .k) n b),
+    )
+
+same-length : tie.Need-same-length Inv-loop μ-loop
+same-length c = search needs
+
+returns : tie.Need-returns Inv-loop μ-loop
+returns c = let e : c .before .loop .k ≡ 3 = omega arith in extends-whole (rw e at (c .before .loop .inv .1))
+
+pub copy-cell-spec : {M : Type 1} → statement M
+copy-cell-spec =
+    tie.close
+    (tie.spec
+    Inv-loop
+    μ-loop
+    places-requires
+    places-requires-2
+    loop-holds
+    mul-copy-plane
+    mul-copy-plane-2
+    mul-copy-plane-3
+    mul-copy-plane-4
+    copy-plane-requires
+    add-k
+    loop-less
+    loop-again
+    same-length
+    returns)

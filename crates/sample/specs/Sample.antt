@@ -1,0 +1,80 @@
+-- 01, "Cell sampling", and its refusals. All operations are binary32, in the order written.
+use Prim.Native.Nat.{ℕ, zero, suc, _+_, _*_, _/_, _%_}
+use mathlib.Core.Path.{_≡_}
+use mathlib.Core.Bool.{Bool, true, not, cond, _&&_, _||_}
+use mathlib.Core.List.{List, _++_}
+use lib.Dec.{eqb, ltb}
+use lib.IntN.{pos}
+use lib.Ieee.{Float, binary32, le, add, mul, div, ofInt, ofBits}
+use lib.ListN.{length, take, drop}
+use Rattle.binary32.specs.Binary32.{trunc}
+use Rattle.lists.specs.Tab.{grid}
+use Rattle.board.specs.declared.Board.{Board}
+use Rattle.board.specs.Board.{leastPlaneSide, mostSize, sidesOutside}
+use Rattle.board.specs.Screen.{view}
+use Rattle.gradient.specs.Gradient.{allUnits}
+
+abbrev pub float : ℕ → Float
+float n = ofInt binary32 (pos n)
+
+-- the row of point i of cell x: trunc(((corner + offset) + pitch·x) + ((pitch / 2.0) / size)·(2i + 1)); the column likewise.
+-- 2.0 and 1.0 stand by their bits.
+unfoldable pub sampledAt : ℕ → ℕ → Float → ℕ → ℕ → ℕ → ℕ
+sampledAt corner offset pitch x size i =
+    let start = add binary32 (add binary32 (float corner) (float offset)) (mul binary32 pitch (float x)) in
+    let half = div binary32 (div binary32 pitch (ofBits binary32 0x40000000)) (float size) in
+    let steps = add binary32 (mul binary32 (float i) (ofBits binary32 0x40000000)) (ofBits binary32 0x3F800000) in
+    trunc (add binary32 start (mul binary32 half steps))
+
+abbrev pub rowAt : Board → ℕ → ℕ → ℕ → ℕ
+rowAt b x size i = sampledAt (b .«r_1») (b .r0) (b .pixelr) x size i
+
+abbrev pub columnAt : Board → ℕ → ℕ → ℕ → ℕ
+columnAt b y size j = sampledAt (b .«c_1») (b .c0) (b .pixelc) y size j
+
+-- the values of a cell: planes one after another, each rows first
+abbrev pub cell : Board → List Float → ℕ → ℕ → ℕ → List Float
+cell b planes x y size =
+    grid 3 (size * size) (λ k n. view (b .height) (b .width) planes .px k (rowAt b x size (n / size)) (columnAt b y size (n % size)))
+
+-- ---- the call, and its refusals
+
+-- a pitch outside 8.0 to 200.0, or no number
+unfoldable pub pitchOutside : Float → Bool
+pitchOutside p = not (le (ofBits binary32 0x41000000) p && le p (ofBits binary32 0x43480000))
+
+-- f 0 to f (n - 1) are below the limit
+abbrev pub allBelow : (ℕ → ℕ) → ℕ → ℕ → Bool
+allBelow f limit zero = true
+allBelow f limit (suc n) = allBelow f limit n && ltb (f n) limit
+
+-- 4,096: the most that a cell's numbers and a record's corner and offset may be
+abbrev pub mostNumber : ℕ
+mostNumber = 4096
+
+-- x, y, the corner or the offset is above that, or the size above its limit
+unfoldable pub numbersAbove : ℕ → ℕ → ℕ → ℕ → ℕ → ℕ → ℕ → Bool
+numbersAbove x y r₁ c₁ r₀ c₀ size =
+    ltb mostNumber x || ltb mostNumber y || ltb mostNumber r₁ || ltb mostNumber c₁ || ltb mostNumber r₀ || ltb mostNumber c₀ || ltb mostSize size
+
+-- the answer where the planes are fit, for `room` entries of output
+unfoldable pub cellAnswer : Board → ℕ → ℕ → ℕ → ℕ → ℕ
+unfolding pitchOutside numbersAbove sampledAt
+cellAnswer b x y size room =
+    cond (pitchOutside (b .pixelr) || pitchOutside (b .pixelc)) 10
+    (cond (numbersAbove x y (b .«r_1») (b .«c_1») (b .r0) (b .c0) size) 11
+    (cond (ltb room (3 * (size * size))) 3
+    (cond (allBelow (rowAt b x size) (b .height) size && allBelow (columnAt b y size) (b .width) size) 0 12)))
+
+-- the answer of a call, on any planes
+unfoldable pub sampleAnswer : Board → List Float → ℕ → ℕ → ℕ → ℕ → ℕ
+unfolding sidesOutside cellAnswer
+sampleAnswer b planes x y size room =
+    cond (sidesOutside leastPlaneSide (b .height) (b .width)) 1
+    (cond (ltb (length planes) (3 * (b .height * b .width))) 3
+    (cond (not (allUnits (take (3 * (b .height * b .width)) planes))) 4 (cellAnswer b x y size room)))
+
+-- what a call answers and leaves: the cell, then what was there; on a refusal nothing is written
+pub record SampleGives (b : Board) (planes : List Float) (x y size : ℕ) (out : List Float) (expected answer : ℕ) (left : List Float) : Type 0 where
+  pub answer-is : answer ≡ expected
+  pub out-is : left ≡ cond (eqb answer 0) (cell b planes x y size ++ drop (3 * (size * size)) out) out

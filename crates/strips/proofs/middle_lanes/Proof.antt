@@ -1,0 +1,72 @@
+-- `strips::middle_lanes` meets its contract. The invariant: the first i entries are filled. The entries left fall.
+use Prim.Native.Nat.{_+_, _-_, _≤_}
+use mathlib.Core.Path.{_≡_, refl}
+use native.Mathlib.Omega.{arith}
+use lib.ListN.{length, getD}
+use Rattle.lists.proofs.Fill.{Filled, filled-none, filled-more}
+use Rattle.strips.proofs.Bands.{filled-all}
+use borrow.Author.Needs.{needs}
+use Rattle.strips.proofs.middle_lanes.Statement.{statement}
+use Rattle.strips.proofs.middle_lanes.Tie as tie
+
+abbrev Inv-loop : tie.InvT-loop
+Inv-loop st out₀ i₀ i-end out i =
+    (i ≤ length out₀) × (i-end ≡ length out₀) × Filled (λ j. getD st (8192 + j) 0 - 5) i out₀ out
+
+abbrev μ-loop : tie.MeasureT-loop
+μ-loop st out₀ i₀ i-end out i = length out₀ - i
+
+loop-holds : tie.Need-loop-holds Inv-loop μ-loop
+loop-holds c = (omega arith, refl, filled-none)
+
+add-above : tie.Need-add-above Inv-loop μ-loop
+add-above c = search needs
+
+mul-above : tie.Need-mul-above Inv-loop μ-loop
+mul-above c = search needs
+
+element-copy-out-above : tie.Need-element-copy-out-above Inv-loop μ-loop
+element-copy-out-above c = search needs
+
+above-requires : tie.Need-above-requires Inv-loop μ-loop
+above-requires c κs = c .before .before .before .before .pre .1 _ (omega arith)
+
+mul-out : tie.Need-mul-out Inv-loop μ-loop
+mul-out c = search needs
+
+slice-write-out : tie.Need-slice-write-out Inv-loop μ-loop
+slice-write-out c = search needs
+
+add-i : tie.Need-add-i Inv-loop μ-loop
+add-i c = search needs
+
+loop-less : tie.Need-loop-less Inv-loop μ-loop
+loop-less c = search needs
+
+loop-again : tie.Need-loop-again Inv-loop μ-loop
+loop-again c = (omega arith, refl, filled-more (c .before .before .before .loop .inv .2) (omega arith) (c .above .ensures))
+
+same-length : tie.Need-same-length Inv-loop μ-loop
+same-length c = search needs
+
+returns : tie.Need-returns Inv-loop μ-loop
+returns c = filled-all (c .before .loop .inv .2) (omega arith)
+
+pub middle-lanes-spec : {M : Type 1} → statement M
+middle-lanes-spec =
+    tie.close
+    (tie.spec
+    Inv-loop
+    μ-loop
+    loop-holds
+    add-above
+    mul-above
+    element-copy-out-above
+    above-requires
+    mul-out
+    slice-write-out
+    add-i
+    loop-less
+    loop-again
+    same-length
+    returns)

@@ -1,0 +1,4 @@
+pub mod Best
+pub mod Laws
+pub mod Row
+pub mod Winner

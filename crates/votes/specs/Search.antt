@@ -1,0 +1,37 @@
+-- What the inner functions of the search say to each other: a row of votes, and the best of a part of the range.
+-- The promise of `winner_of` rests on none of it.
+use Prim.Native.Nat.{ℕ, _+_, _≤_, _<_}
+use mathlib.Core.Path.{_≡_}
+use mathlib.Core.Logic.{_⊎_}
+use mathlib.Core.Bool.{cond}
+use mathlib.Core.List.{List}
+use lib.Dec.{eqb}
+use lib.ListN.{length, getD}
+use Rattle.votes.specs.declared.Choice.{Choice}
+use Rattle.votes.specs.Votes.{Ahead}
+
+-- 1 where the formula l − s gives the offset
+abbrev pub hit : ℕ → ℕ → ℕ → ℕ
+hit l s offset = cond (eqb (offset + s) l) 1 0
+
+-- each of the first `width` entries of a row has v more
+pub record Added (width : ℕ) (v : ℕ → ℕ) (row out : List ℕ) : Type 0 where
+  pub len : length out ≡ length row
+  pub at : (o : ℕ) → o < width → getD out o 0 ≡ getD row o 0 + v o
+
+-- x is one of `count` numbers from `from` on
+pub record Within (from count x : ℕ) : Type 0 where
+  pub low : from ≤ x
+  pub high : x < from + count
+
+-- a choice of n offsets from o on and m values of q from q on, whose votes are f's
+pub record Block (f : ℕ → ℕ → ℕ) (o n q m : ℕ) (c : Choice) : Type 0 where
+  pub counted : c .votes ≡ f (c .offset) (c .quarter)
+  pub offsets : Within o n (c .offset)
+  pub quarters : Within q m (c .quarter)
+
+-- r is the one of S and `best` that is ahead of the others
+pub record Picks (S : Choice → Type 0) (best r : Choice) : Type 0 where
+  pub is : (r ≡ best) ⊎ S r
+  pub kept : Ahead r best
+  pub over : (c : Choice) → S c → Ahead r c
