@@ -5,10 +5,13 @@ ghost use lib.ListN.{length};
 ghost use Rattle.load.specs.Load.{ofByte, LoadGives};
 ghost use Rattle.gradient.specs.Gradient.{GradientGives};
 ghost use Rattle.reading.specs.Reading.{readingOf};
+ghost use Rattle.locate.specs.Locate.{fitAnswer, LocateGives};
+ghost use Rattle.locate.specs.Promise.{Promise};
 ghost use Rattle.sample.specs.Sample.{sampleAnswer, SampleGives};
 ghost use Rattle.folgutan.specs.Line.{lineOf};
 use board::Board;
 use load::Loaded;
+use locate::Located;
 use reading::Reading;
 
 // A reading as C has it: zeros unless the answer is 0.
@@ -43,6 +46,22 @@ pub extern "C" fn folgutan_gradient(
     ensures { λ r. ⌜ GradientGives height width (now (planes .entry)) (now (out .entry)) r (now (out .exit)) ⌝ }
 {
     gradient::get_gradient(height, width, planes, out)
+}
+
+#[no_mangle]
+pub extern "C" fn folgutan_locate(
+    b: Board,
+    planes: &mut [f32],
+    edges: &mut [u8],
+    scores: &mut [u32],
+    floats: &mut [f32],
+    bytes: &mut [u8],
+    words: &mut [u32],
+) -> Located
+    ensures gives { λ r. ⌜ LocateGives (fitAnswer (b .height) (b .width) (now (planes .entry)) (length (now (edges .entry))) (length (now (scores .entry))) (length (now (floats .entry))) (length (now (bytes .entry))) (length (now (words .entry)))) b (now (planes .entry)) (now (edges .entry)) (now (scores .entry)) r (now (planes .exit)) (now (edges .exit)) (now (scores .exit)) ⌝ }
+    ensures promise { λ r. ⌜ Promise (fitAnswer (b .height) (b .width) (now (planes .entry)) (length (now (edges .entry))) (length (now (scores .entry))) (length (now (floats .entry))) (length (now (bytes .entry))) (length (now (words .entry)))) b (now (planes .entry)) r (now (scores .exit)) ⌝ }
+{
+    locate::get_pos_pixel(b, planes, edges, scores, floats, bytes, words)
 }
 
 #[no_mangle]

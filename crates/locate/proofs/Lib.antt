@@ -1,0 +1,9 @@
+pub mod Unbeaten
+pub mod Checks
+pub mod Ends
+pub mod Leading
+pub mod Looking
+pub mod Narrowing
+pub mod Promises
+pub mod Working
+pub mod Scoring

@@ -1,0 +1,4 @@
+pub mod Search
+pub mod Locate
+pub mod Promise
+pub mod Steps
