@@ -1,7 +1,12 @@
 //! Each operation of the port beside the Rust, bit for bit.
 
 pub mod basics;
+pub mod edges;
+pub mod gradient;
+mod lent;
 pub mod load;
+pub mod narrow;
+mod values;
 
 /// How far a run goes. Two runs with the same seed compare the same cases.
 pub struct Run {
@@ -20,8 +25,20 @@ impl Run {
     }
 }
 
-/// The number of cases compared, or the first difference: its case, its place and both values.
-pub type Outcome = Result<u64, String>;
+/// The number of cases compared, and what else is worth a line.
+pub struct Tally {
+    pub cases: u64,
+    pub note: String,
+}
+
+impl From<u64> for Tally {
+    fn from(cases: u64) -> Tally {
+        Tally { cases, note: String::new() }
+    }
+}
+
+/// What was compared, or the first difference: its case, its place and both values.
+pub type Outcome = Result<Tally, String>;
 
 /// One line of the run each.
 pub const OPERATIONS: &[(&str, fn(&Run) -> Outcome)] = &[
@@ -31,6 +48,9 @@ pub const OPERATIONS: &[(&str, fn(&Run) -> Outcome)] = &[
     ("larger", basics::larger),
     ("truncated", basics::truncated),
     ("entry", basics::entry),
+    ("gradient", gradient::compare),
+    ("edges", edges::compare),
+    ("narrow", narrow::compare),
 ];
 
 /// Prints a line for each operation. True where nothing differs.
@@ -38,7 +58,7 @@ pub fn run(run: &Run) -> bool {
     let mut same = true;
     for (name, compare) in OPERATIONS {
         match compare(run) {
-            Ok(cases) => println!("{name}: {cases} cases, no difference"),
+            Ok(Tally { cases, note }) => println!("{name}: {cases} cases, no difference{note}"),
             Err(difference) => {
                 println!("{name}: DIFFERENCE, seed {}, {difference}", run.seed);
                 same = false;
