@@ -1,11 +1,14 @@
 //! Each operation of the port beside the Rust, bit for bit.
 
 pub mod basics;
+pub mod bounds;
 pub mod edges;
 pub mod gradient;
 mod lent;
 pub mod load;
 pub mod narrow;
+pub mod read_line;
+pub mod sample;
 mod values;
 
 /// How far a run goes. Two runs with the same seed compare the same cases.
@@ -51,6 +54,11 @@ pub const OPERATIONS: &[(&str, fn(&Run) -> Outcome)] = &[
     ("gradient", gradient::compare),
     ("edges", edges::compare),
     ("narrow", narrow::compare),
+    ("bounds", bounds::bounds),
+    ("widen", bounds::widen),
+    ("scores", bounds::scores),
+    ("read_line", read_line::compare),
+    ("sample", sample::compare),
 ];
 
 /// Prints a line for each operation. True where nothing differs.
