@@ -6,6 +6,7 @@ pub mod edges;
 pub mod gradient;
 mod lent;
 pub mod load;
+pub mod locate;
 pub mod narrow;
 pub mod read_line;
 pub mod sample;
@@ -59,6 +60,7 @@ pub const OPERATIONS: &[(&str, fn(&Run) -> Outcome)] = &[
     ("scores", bounds::scores),
     ("read_line", read_line::compare),
     ("sample", sample::compare),
+    ("locate", locate::compare),
 ];
 
 /// Prints a line for each operation. True where nothing differs.

@@ -20,6 +20,12 @@ pub struct Board {
 }
 
 impl Board {
+    pub fn of(record: &Record) -> Board {
+        let Record { height, width, r_1, c_1, r0, c0, r, c, pixelr, pixelc } = *record;
+        let (pixelr, pixelc) = (f32::from_bits(pixelr), f32::from_bits(pixelc));
+        Board { height, width, r_1, c_1, r0, c0, r, c, pixelr, pixelc }
+    }
+
     pub fn record(&self) -> Record {
         Record {
             height: self.height,
@@ -42,6 +48,28 @@ impl Board {
 pub struct Loaded {
     pub board: Board,
     pub answer: u32,
+}
+
+/// folgutan_located of include/folgutan.h.
+#[repr(C)]
+#[derive(Clone, Copy, Debug)]
+pub struct Located {
+    pub board: Board,
+    pub answer: u32,
+    pub quarterr: u32,
+    pub quarterc: u32,
+    pub votesr: u32,
+    pub votesc: u32,
+    pub narrowed: u32,
+}
+
+/// The slices that locating is lent, beside the planes.
+pub struct Slices<'a> {
+    pub edges: &'a mut [u8],
+    pub scores: &'a mut [u32],
+    pub floats: &'a mut [f32],
+    pub bytes: &'a mut [u8],
+    pub words: &'a mut [u32],
 }
 
 /// folgutan_reading of include/folgutan.h.
@@ -67,7 +95,7 @@ pub struct Corners {
 
 /// Nothing checks these against the signatures in crates/folgutan and crates/folgutan_inner.
 mod linked {
-    use super::{Board, Corners, Loaded, Reading};
+    use super::{Board, Corners, Loaded, Located, Reading};
 
     extern "C" {
         pub fn folgutan_load(
@@ -87,6 +115,21 @@ mod linked {
             out: *mut f32,
             out_len: usize,
         ) -> u32;
+        pub fn folgutan_locate(
+            board: Board,
+            planes: *mut f32,
+            planes_len: usize,
+            edges: *mut u8,
+            edges_len: usize,
+            scores: *mut u32,
+            scores_len: usize,
+            floats: *mut f32,
+            floats_len: usize,
+            bytes: *mut u8,
+            bytes_len: usize,
+            words: *mut u32,
+            words_len: usize,
+        ) -> Located;
         pub fn folgutan_read_line(
             list: *const u32,
             list_len: usize,
@@ -204,6 +247,27 @@ pub fn gradient(height: usize, width: usize, planes: &[f32], out: &mut [f32]) ->
             planes.len(),
             out.as_mut_ptr(),
             out.len(),
+        )
+    }
+}
+
+pub fn locate(board: Board, planes: &mut [f32], slices: Slices) -> Located {
+    let Slices { edges, scores, floats, bytes, words } = slices;
+    unsafe {
+        linked::folgutan_locate(
+            board,
+            planes.as_mut_ptr(),
+            planes.len(),
+            edges.as_mut_ptr(),
+            edges.len(),
+            scores.as_mut_ptr(),
+            scores.len(),
+            floats.as_mut_ptr(),
+            floats.len(),
+            bytes.as_mut_ptr(),
+            bytes.len(),
+            words.as_mut_ptr(),
+            words.len(),
         )
     }
 }

@@ -176,7 +176,7 @@ impl Cases {
     fn differs(&mut self, call: &Call, planes: &[f32]) -> Option<String> {
         let Call { record, x, y, size, out } = *call;
         let mut lent = Lent::new(out);
-        let have = port::sample(board(&record), planes, x, y, size, lent.slice());
+        let have = port::sample(Board::of(&record), planes, x, y, size, lent.slice());
         let refusal = rule(call, planes);
         let fit = !matches!(refusal, Some(1 | 4)) && planes.len() >= 3 * record.height * record.width;
         // the Rust, where its planes can be built and a cell of that size can be held
@@ -202,18 +202,12 @@ impl Cases {
         }
         // the inner function, which is not handed planes that are unfit
         let mut lent = Lent::new(out);
-        let have = port::inner::sample(board(&record), planes, x, y, size, lent.slice());
+        let have = port::inner::sample(Board::of(&record), planes, x, y, size, lent.slice());
         if have != want {
             return Some(format!("inner answer: to be {want}, port {have}"));
         }
         lent.differs("inner output", cell)
     }
-}
-
-fn board(record: &Record) -> Board {
-    let Record { height, width, r_1, c_1, r0, c0, r, c, pixelr, pixelc } = *record;
-    let (pixelr, pixelc) = (f32::from_bits(pixelr), f32::from_bits(pixelc));
-    Board { height, width, r_1, c_1, r0, c0, r, c, pixelr, pixelc }
 }
 
 /// The refusal that 01 asks for, but for 12.
