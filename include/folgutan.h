@@ -117,6 +117,62 @@ uint32_t folgutan_gradient(size_t height, size_t width,
                            const float *planes, size_t planes_len,
                            float *out, size_t out_len);
 
+/* What locating hands back. Quarters and votes are 0 unless the answer is 0;
+ * narrowed is 0 after FOLGUTAN_BAD_SIDE, FOLGUTAN_SHORT_SLICE and
+ * FOLGUTAN_BAD_VALUE. */
+typedef struct {
+    folgutan_board board;
+    uint32_t answer;
+    uint32_t quarterr, quarterc;  /* the pitches in quarters of a pixel */
+    uint32_t votesr, votesc;      /* of each pitch with its offset */
+    uint32_t narrowed;            /* how often the planes were narrowed */
+} folgutan_located;
+
+/* Finds a board in the planes of a screen (01, Locating).
+ *
+ * board: only its sides, h and w, are looked at.
+ * planes: 3 * h * w values, as loading leaves them.
+ * edges: at least h * w bytes.
+ * scores: at least h + w entries.
+ * scratch_f32, scratch_u8: at least h * w entries each; scratch_u32: at least
+ *   4 * (h + w). Their content does not matter, and all of it is free
+ *   afterwards, on refusals too.
+ *
+ * FOLGUTAN_DONE: the record is the board's. r_1, c_1, r0, c0 and the pitches
+ *   are in pixels of the picture that was read; the sides are those of the
+ *   planes as they are left. The count of rows or of columns can be 0.
+ * Refusals, the first that holds:
+ *   FOLGUTAN_BAD_SIDE     h or w is outside 12 to 4096
+ *   FOLGUTAN_SHORT_SLICE  one of the six slices is too short
+ *   FOLGUTAN_BAD_VALUE    one of the first 3 * h * w plane values is not 0.0
+ *                         to 1.0, or is -0.0
+ *   Then nothing but scratch is written, and the record is handed back as
+ *   given. Further refusals:
+ *   FOLGUTAN_TOO_SMALL        a board that covers more than a third of the
+ *                             picture was not found before a side, less 2, was
+ *                             64 or below
+ *   FOLGUTAN_COLUMNS_NO_GAP   no two neighbouring column lines are more than 5
+ *                             apart
+ *   FOLGUTAN_COLUMNS_TOO_FAR  column lines are some 206 or more apart
+ *   FOLGUTAN_ROWS_NO_GAP, FOLGUTAN_ROWS_TOO_FAR  the same of the rows
+ *   Then the record has the new sides, and its other fields are as given.
+ *
+ * After FOLGUTAN_DONE and the further refusals:
+ * - planes hold the picture, narrowed as often as `narrowed` says and packed by
+ *   the new sides, then 0.0 up to the old 3 * h * w;
+ * - edges start with the first edge picture, (h - 2) * (w - 2) bytes, rows
+ *   first, 1 for set and 0 for unset;
+ * - scores start with the column scores, followed by the row scores; after
+ *   FOLGUTAN_TOO_SMALL they are unchanged.
+ * Entries further on keep their content. */
+folgutan_located folgutan_locate(folgutan_board board,
+                                 float *planes, size_t planes_len,
+                                 uint8_t *edges, size_t edges_len,
+                                 uint32_t *scores, size_t scores_len,
+                                 float *scratch_f32, size_t scratch_f32_len,
+                                 uint8_t *scratch_u8, size_t scratch_u8_len,
+                                 uint32_t *scratch_u32, size_t scratch_u32_len);
+
 /* What a line reading hands back: zeros unless the answer is 0. */
 typedef struct {
     uint32_t answer;

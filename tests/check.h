@@ -40,6 +40,7 @@ int kept(lent_floats lent, size_t written);
 /* The parts. */
 void test_load(void);
 void test_gradient(void);
+void test_locate(void);
 void test_read_line(void);
 void test_sample(void);
 

@@ -27,6 +27,15 @@ _Static_assert(offsetof(folgutan_loaded, board) == 0, "board");
 _Static_assert(offsetof(folgutan_loaded, answer) == 72, "answer");
 _Static_assert(sizeof(folgutan_loaded) == 80, "folgutan_loaded");
 
+_Static_assert(offsetof(folgutan_located, board) == 0, "board");
+_Static_assert(offsetof(folgutan_located, answer) == 72, "answer");
+_Static_assert(offsetof(folgutan_located, quarterr) == 76, "quarterr");
+_Static_assert(offsetof(folgutan_located, quarterc) == 80, "quarterc");
+_Static_assert(offsetof(folgutan_located, votesr) == 84, "votesr");
+_Static_assert(offsetof(folgutan_located, votesc) == 88, "votesc");
+_Static_assert(offsetof(folgutan_located, narrowed) == 92, "narrowed");
+_Static_assert(sizeof(folgutan_located) == 96, "folgutan_located");
+
 _Static_assert(offsetof(folgutan_reading, answer) == 0, "answer");
 _Static_assert(offsetof(folgutan_reading, pitch) == 4, "pitch");
 _Static_assert(offsetof(folgutan_reading, offset) == 8, "offset");
@@ -112,6 +121,7 @@ int main(void)
 {
     test_load();
     test_gradient();
+    test_locate();
     test_read_line();
     test_sample();
     printf("interface: %lu checks\n", checks);

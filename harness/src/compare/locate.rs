@@ -33,6 +33,10 @@ pub fn compare(run: &Run) -> Outcome {
         let pixels = screens::textured(&mut cases.rng, height, width, 3);
         cases.screen(height, width, &pixels)?;
     }
+    for _ in 0..run.choose(6, 200) {
+        cases.far(true)?;
+        cases.far(false)?;
+    }
     for _ in 0..run.choose(10, 300) {
         let (height, width) = (cases.rng.between(80, 400), cases.rng.between(80, 400));
         cases.any(height, width)?;
@@ -182,6 +186,23 @@ impl Cases {
         if pixels.len() != 4 * height * width {
             return self.screen(height.max(30), width.max(30), &pixels);
         }
+        self.screen(height, width, &pixels)
+    }
+
+    /// Cells of 200 to 220 pixels in one direction and small ones in the other. A third of the way a
+    /// line lies, which the scan follows.
+    fn far(&mut self, columns: bool) -> Result<(), String> {
+        let rng = &mut self.rng;
+        let (far, start) = (rng.between(200, 220), rng.between(2, 9));
+        let (low, long) = (rng.between(30, 90), 3 * (far + start - rng.below(3)) + 2);
+        let near = rng.pick(&[4, 5, 9, 12, 15]);
+        let (height, width) = if columns { (low, long) } else { (long, low) };
+        let mut board = Drawn::filling(rng, height, width, 8, 20);
+        (board.down, board.across) = if columns { (near, far) } else { (far, near) };
+        (board.top, board.left) = if columns { (rng.below(9), start) } else { (start, rng.below(9)) };
+        board.rows = (height - board.top - 1) / board.down;
+        board.columns = (width - board.left - 1) / board.across;
+        let pixels = board.screen(height, width);
         self.screen(height, width, &pixels)
     }
 
