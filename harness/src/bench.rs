@@ -24,28 +24,33 @@ const REPEATS: usize = 5;
 const ENOUGH: Duration = Duration::from_millis(600);
 const MOST_REPEATS: usize = 40;
 
-pub fn run() {
+/// Measures all operations, or those whose name has the word.
+pub fn run(only: Option<&str>) {
+    let wanted = |operation: &str| only.map_or(true, |word| operation.contains(word));
     println!(
         "{:<20} {:>9} {:>10} {:>14} {:>14} {:>8}",
         "operation", "kind", "screen", "Rust ns/pixel", "port ns/pixel", "ratio"
     );
-    for &(width, height) in SCREENS {
-        row("load", "noise", width, height, load::measure(height, width));
+    if wanted("load") {
+        for &(width, height) in SCREENS {
+            row("load", "noise", width, height, load::measure(height, width));
+        }
     }
     let (width, height) = USUAL;
     for kind in [Kind::Clean, Kind::Noisy] {
-        let name = kind.name();
-        row("gradient", name, width, height, gradient::measure(kind, height, width));
-        row("threshold, edges", name, width, height, edges::measure(kind, height, width));
-        row("narrow", name, width, height, narrow::measure(kind, height, width));
-        row("column scores", name, width, height, scores::columns(kind, height, width));
-        row("row scores", name, width, height, scores::rows(kind, height, width));
+        for (operation, measure) in STEPS {
+            if wanted(operation) {
+                row(operation, kind.name(), width, height, measure(kind, height, width));
+            }
+        }
     }
     for kind in [Kind::Clean, Kind::Noisy, Kind::Blank, Kind::Narrowed] {
         for &(width, height) in SCREENS {
-            let name = kind.name();
-            row("locate", name, width, height, locate::measure(kind, height, width));
-            row("load and locate", name, width, height, locate::with_load(kind, height, width));
+            for (operation, measure) in WHOLE {
+                if wanted(operation) {
+                    row(operation, kind.name(), width, height, measure(kind, height, width));
+                }
+            }
         }
     }
     println!();
@@ -53,13 +58,34 @@ pub fn run() {
         "{:<20} {:>20} {:>14} {:>14} {:>8}",
         "operation", "input", "Rust ns/call", "port ns/call", "ratio"
     );
-    for (name, times) in read_line::measure(height, width) {
-        call("read_line", &name, times);
-    }
-    for (name, times) in sample::measure(height, width) {
-        call("sample 24 by 24", &name, times);
+    for (operation, measure) in CALLS {
+        if wanted(operation) {
+            for (input, times) in measure(height, width) {
+                call(operation, &input, times);
+            }
+        }
     }
 }
+
+/// The least times of the Rust and of the port.
+pub type Times = (Duration, Duration);
+
+/// On a clean and a noisy board of the usual size.
+const STEPS: &[(&str, fn(Kind, usize, usize) -> Times)] = &[
+    ("gradient", gradient::measure),
+    ("threshold, edges", edges::measure),
+    ("narrow", narrow::measure),
+    ("column scores", scores::columns),
+    ("row scores", scores::rows),
+];
+
+/// On every kind of screen and every size.
+const WHOLE: &[(&str, fn(Kind, usize, usize) -> Times)] =
+    &[("locate", locate::measure), ("load and locate", locate::with_load)];
+
+/// By the call, on inputs that they name.
+const CALLS: &[(&str, fn(usize, usize) -> Vec<(String, Times)>)] =
+    &[("read_line", read_line::measure), ("sample 24 by 24", sample::measure)];
 
 fn row(
     operation: &str,

@@ -16,6 +16,8 @@ mod values;
 pub struct Run {
     pub long: bool,
     pub seed: u64,
+    /// The one operation that is wanted, if not all are.
+    pub only: Option<String>,
 }
 
 impl Run {
@@ -65,8 +67,13 @@ pub const OPERATIONS: &[(&str, fn(&Run) -> Outcome)] = &[
 
 /// Prints a line for each operation. True where nothing differs.
 pub fn run(run: &Run) -> bool {
+    let wanted = |name: &str| run.only.as_deref().map_or(true, |only| only == name);
+    if !OPERATIONS.iter().any(|(name, _)| wanted(name)) {
+        println!("no such operation");
+        return false;
+    }
     let mut same = true;
-    for (name, compare) in OPERATIONS {
+    for (name, compare) in OPERATIONS.iter().filter(|(name, _)| wanted(name)) {
         match compare(run) {
             Ok(Tally { cases, note }) => println!("{name}: {cases} cases, no difference{note}"),
             Err(difference) => {
