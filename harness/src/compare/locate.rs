@@ -329,6 +329,7 @@ fn wanted(mut board: ImageBoard, pixels: &[u8], call: &Call) -> Result<Wanted, S
         _ if f32::from_bits(rust.pixelr) == 0.0 => 9,
         _ => 0,
     };
+    departures(answer, whole, &rust, seen.widened)?;
     let given = Record { height: rust.height, width: rust.width, ..call.given };
     let mut located = refused(if answer == 0 { &rust } else { &given }, answer);
     located.narrowed = seen.narrowed as u32;
@@ -340,4 +341,27 @@ fn wanted(mut board: ImageBoard, pixels: &[u8], call: &Call) -> Result<Wanted, S
     let scores = seen.scores.map_or(vec![], |(columns, rows)| [columns, rows].concat());
     let far_panic = answer == 7 && !whole;
     Ok(Wanted { located, planes, edges: seen.edges, scores, far_panic })
+}
+
+/// What docs/DIFFERENCES.md says of the Rust's record at 5, 7 and 9.
+fn departures(
+    answer: u32,
+    whole: bool,
+    rust: &Record,
+    widened: Option<[usize; 4]>,
+) -> Result<(), String> {
+    let fresh = Record { height: rust.height, width: rust.width, ..Record::default() };
+    let corner = widened.map(|[r_1, _, c_1, _]| (r_1, c_1)) == Some((rust.r_1, rust.c_1));
+    let as_said = match answer {
+        7 if whole => corner && (rust.pixelc, rust.c0, rust.c) == (0, 0, usize::MAX),
+        9 => corner && (rust.pixelr, rust.r0, rust.r) == (0, 0, usize::MAX) && rust.pixelc != 0,
+        0 => corner,
+        // a panic or a quiet return leaves the record fresh
+        _ => *rust == fresh,
+    };
+    if as_said {
+        Ok(())
+    } else {
+        Err(format!("at {answer} the Rust's record is not as docs/DIFFERENCES.md says: {rust:?}"))
+    }
 }

@@ -190,6 +190,7 @@ impl Cases {
             (10, Some(_)) => self.pitch += 1,
             (11, Some(_)) if size > 64 => self.size += 1,
             (11, Some(_)) if size == 0 => self.zero += 1,
+            (11, Some(_)) => return Some("a number above 4,096 is sampled by the Rust".into()),
             _ => (),
         }
         if have != want {
