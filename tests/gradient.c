@@ -44,8 +44,8 @@ static float wanted(const float *planes, size_t height, size_t width, size_t i, 
     return most;
 }
 
-/* One call: the answer, every entry of the output and around it, and the planes. At `bad` the planes
- * hold `bits`. */
+/* One call: the answer, every entry of the output and around it, and the planes. At `bad` they hold
+ * `bits`. */
 static void gradient_case(size_t height, size_t width, size_t planes_len, size_t out_len,
                           size_t bad, uint32_t bits, uint32_t answer)
 {

@@ -41,7 +41,7 @@ static void sample_case(const char *name, call c, uint32_t answer)
 {
     char where[240];
     snprintf(where, sizeof where,
-             "sample, %s: sides %zu and %zu, %zu plane values, cell %zu, %zu, size %zu, %zu outputs",
+             "sample, %s: sides %zu, %zu, %zu plane values, cell %zu, %zu, size %zu, %zu outputs",
              name, c.board.height, c.board.width, c.planes_len, c.x, c.y, c.size, c.out_len);
 
     float *planes = memory(c.planes_len, sizeof *planes);
@@ -209,7 +209,7 @@ static void sample_values(void)
             sample_case("unfit value", c, FOLGUTAN_BAD_VALUE);
             c.size = 0;
             sample_case("unfit value, size 0", c, FOLGUTAN_BAD_VALUE);
-            /* the pitch, the numbers and the output are looked at later, the planes' length before */
+            /* pitch, numbers and output are looked at later, the planes' length before */
             c.size = 65;
             c.out_len = 0;
             c.board.pixelc = 0.0f;

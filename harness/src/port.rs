@@ -425,13 +425,7 @@ pub mod inner {
     }
 
     /// The bytes are 0 and 1.
-    pub fn row_scores(
-        edges: &[u8],
-        stride: usize,
-        b: Corners,
-        turned: &mut [u8],
-        out: &mut [u32],
-    ) {
+    pub fn row_scores(edges: &[u8], stride: usize, b: Corners, turned: &mut [u8], out: &mut [u32]) {
         assert!(scorable(edges, stride, b) && b.r_2 - b.r_1 <= out.len());
         assert!((b.c_2 - b.c_1 + 1) * (b.r_2 - b.r_1) <= turned.len());
         debug_assert!(edges.iter().all(|&e| e <= 1));

@@ -57,8 +57,7 @@ impl Drawn {
         let (top, left) = (rng.below(height / 5 + 1), rng.below(width / 5 + 1));
         let rows = ((height - top).saturating_sub(2) / down).saturating_sub(rng.below(2));
         let columns = ((width - left).saturating_sub(2) / across).saturating_sub(rng.below(2));
-        let colours =
-            (0..rng.between(1, 5)).map(|_| rng.word().to_le_bytes()).collect();
+        let colours = (0..rng.between(1, 5)).map(|_| rng.word().to_le_bytes()).collect();
         Drawn { top, left, rows, columns, down, across, rim: rng.below(3), colours }
     }
 
@@ -103,11 +102,12 @@ pub fn noisy(rng: &mut Rng, pixels: &mut [u8], by: i32) {
 }
 
 /// A screen that is narrowed and often read afterwards: coarse texture everywhere, a flat bar
-/// through the middle, which the first scan cannot cross, and a fine board at the top left. At scale
-/// 1 it takes one narrowing, at scale 3 two.
+/// through the middle, which the first scan cannot cross, and a fine board at the top left. It takes
+/// one narrowing at scale 1, two at scale 3.
 pub fn textured(rng: &mut Rng, height: usize, width: usize, scale: usize) -> Vec<u8> {
     let block = if scale == 1 { rng.between(9, 15) } else { rng.between(9 * scale, 13 * scale) };
-    let thick = if scale == 1 { rng.between(7, 10) } else { rng.between(7 * scale, 28 * scale / 3) };
+    let thick =
+        if scale == 1 { rng.between(7, 10) } else { rng.between(7 * scale, 28 * scale / 3) };
     let (across, down) = rng.pick(&[(true, false), (false, true), (true, true)]);
     let seed = rng.next();
     let part = 3 * scale;
@@ -115,7 +115,8 @@ pub fn textured(rng: &mut Rng, height: usize, width: usize, scale: usize) -> Vec
     let mut board = Drawn::filling(rng, h, w, 7, (h.min(w) / 2).clamp(8, 40));
     board.top = rng.below(3);
     board.left = rng.below(3);
-    let in_bar = |at: usize, side: usize| (side / 2 - thick / 2..side / 2 - thick / 2 + thick).contains(&at);
+    let in_bar =
+        |at: usize, side: usize| (side / 2 - thick / 2..side / 2 - thick / 2 + thick).contains(&at);
     let fine = rng.below(8) > 0;
     painted(height, width, |i, j| {
         if fine && i < h && j < w {

@@ -39,7 +39,7 @@ impl Room {
     }
 }
 
-/// Both came to the same record, and a board was read after the narrowings that the kind stands for.
+/// Both came to the same record, and the screen was as its kind says.
 fn checked(kind: Kind, board: &ImageBoard, located: &Located) {
     let record = load::record(board);
     if located.answer == 0 {

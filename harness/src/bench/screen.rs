@@ -50,8 +50,8 @@ impl Kind {
     }
 }
 
-/// Cells of 30 pixels over most of the screen; a line lies a third of the way down and across, where
-/// the scan starts.
+/// Cells of 30 pixels over most of the screen; lines lie a third of the way down and across, where the
+/// scan starts.
 fn board(height: usize, width: usize) -> Vec<u8> {
     const PITCH: usize = 30;
     let colours: Vec<Pixel> =

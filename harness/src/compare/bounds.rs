@@ -39,7 +39,9 @@ pub fn bounds(run: &Run) -> Outcome {
             return Ok(());
         }
         let picture = shown(edges, column);
-        Err(format!("case {count}, row {row}, column {column}: Rust {want:?}, port {have:?}{picture}"))
+        Err(format!(
+            "case {count}, row {row}, column {column}: Rust {want:?}, port {have:?}{picture}"
+        ))
     };
     // every picture of 4 by 5 points and below
     for (row, column) in [(2, 2), (2, 3), (3, 3), (4, 3), (2, 7), (4, 4), (4, 5)] {
@@ -166,7 +168,9 @@ pub fn scores(run: &Run) -> Outcome {
         one(&edges, row, column, b)?;
     }
     // bands of strips, and the largest sides
-    for (row, column) in [(5, 4094), (4094, 5), (9, 130), (140, 9), (200, 131), (133, 260), (40, 4094)] {
+    for (row, column) in
+        [(5, 4094), (4094, 5), (9, 130), (140, 9), (200, 131), (133, 260), (40, 4094)]
+    {
         for _ in 0..run.choose(3, 60) {
             let edges = marks(rng, row, column);
             one(&edges, row, column, [0, row - 1, 0, column - 1])?;

@@ -175,8 +175,7 @@ impl Cases {
             3 => screens::textured(rng, height.max(30), width.max(30), 1),
             kind => {
                 let most = (height.min(width) / 2).clamp(8, 40);
-                let mut pixels =
-                    Drawn::filling(rng, height, width, 6, most).screen(height, width);
+                let mut pixels = Drawn::filling(rng, height, width, 6, most).screen(height, width);
                 if kind > 11 {
                     screens::noisy(rng, &mut pixels, 4);
                 }
@@ -189,8 +188,8 @@ impl Cases {
         self.screen(height, width, &pixels)
     }
 
-    /// Cells of 200 to 220 pixels in one direction and small ones in the other. A third of the way a
-    /// line lies, which the scan follows.
+    /// Cells of 200 to 220 pixels in one direction and small ones in the other. A third of the way
+    /// lies a line, which the scan follows.
     fn far(&mut self, columns: bool) -> Result<(), String> {
         let rng = &mut self.rng;
         let (far, start) = (rng.between(200, 220), rng.between(2, 9));
@@ -199,7 +198,8 @@ impl Cases {
         let (height, width) = if columns { (low, long) } else { (long, low) };
         let mut board = Drawn::filling(rng, height, width, 8, 20);
         (board.down, board.across) = if columns { (near, far) } else { (far, near) };
-        (board.top, board.left) = if columns { (rng.below(9), start) } else { (start, rng.below(9)) };
+        (board.top, board.left) =
+            if columns { (rng.below(9), start) } else { (start, rng.below(9)) };
         board.rows = (height - board.top - 1) / board.down;
         board.columns = (width - board.left - 1) / board.across;
         let pixels = board.screen(height, width);
@@ -288,9 +288,7 @@ impl Cases {
         let zeros = std::iter::repeat(0.0).take(values.len() - want.planes.len());
         unlike(&want.located, &have)
             .or_else(|| lent_planes.differs("planes", want.planes.iter().copied().chain(zeros)))
-            .or_else(|| {
-                edges.differs("edges", want.edges.iter().flatten().map(|&e| e as u8))
-            })
+            .or_else(|| edges.differs("edges", want.edges.iter().flatten().map(|&e| e as u8)))
             .or_else(|| scores.differs("scores", want.scores.iter().map(|&s| s as u32)))
             .or_else(around)
     }

@@ -81,7 +81,8 @@ fn lines(rng: &mut Rng, len: usize) -> Vec<u32> {
         if rng.below(8) == 0 && at + 1 < len {
             out[at + 1] = out[at];
         }
-        at += if rng.below(12) == 0 { rng.between(1, pitch) } else { pitch + rng.below(jitter + 1) };
+        at +=
+            if rng.below(12) == 0 { rng.between(1, pitch) } else { pitch + rng.below(jitter + 1) };
     }
     out
 }

@@ -57,6 +57,7 @@ pub fn compare(run: &Run) -> Outcome {
             call.record.width = width;
         }
     }
+    near_whole(rng, &mut cases, run)?;
     let Cases { count, done, outside, pitch, size, zero } = cases;
     Ok(Tally {
         cases: count,
@@ -65,6 +66,49 @@ pub fn compare(run: &Run) -> Outcome {
              pitch, {size} by a size above 64, {zero} at size 0 by a number"
         ),
     })
+}
+
+/// Places that are whole numbers or next to one, where another order of the roundings shows: the
+/// corner is small, so that the last sum hides nothing.
+fn near_whole(rng: &mut Rng, cases: &mut Cases, run: &Run) -> Result<(), String> {
+    const LONG: usize = 210;
+    const LOW: usize = 18;
+    let values: Vec<f32> = (0..3 * LONG * LOW).map(|at| at as f32 / 16384.0).collect();
+    let mut one = |rng: &mut Rng, pitch: f32, size: usize| {
+        let down = rng.below(2) == 0;
+        let (height, width) = if down { (LONG, LOW) } else { (LOW, LONG) };
+        let (start, eight) = (rng.pick(&[0, 0, 0, 1, 3]), 8.0f32.to_bits());
+        let mut record =
+            Record { height, width, pixelr: eight, pixelc: eight, ..Record::default() };
+        if down {
+            (record.pixelr, record.r0) = (pitch.to_bits(), start);
+        } else {
+            (record.pixelc, record.c0) = (pitch.to_bits(), start);
+        }
+        let cell = if rng.below(4) == 0 { 1 } else { 0 };
+        let (x, y) = if down { (cell, 0) } else { (0, cell) };
+        cases.one(&Call { record, x, y, size, out: 3 * size * size }, &values)
+    };
+    // pitches in quarters, all of them
+    for quarter in 32..=800 {
+        for size in 1..=64 {
+            if run.long || [3, 7, 11, 24, 25].contains(&size) {
+                one(rng, quarter as f32 / 4.0, size)?;
+            }
+        }
+    }
+    // pitches for which a point lies on a whole number, and their neighbours
+    let mut left = run.choose(4_000, 200_000);
+    while left > 0 {
+        let (size, whole) = (rng.between(1, 64), rng.between(1, 200));
+        let pitch = (whole * 2 * size) as f32 / (2 * rng.below(size) + 1) as f32;
+        let pitch = f32::from_bits(pitch.to_bits() - 1 + rng.below(3) as u32);
+        if (8.0..=200.0).contains(&pitch) {
+            left -= 1;
+            one(rng, pitch, size)?;
+        }
+    }
+    Ok(())
 }
 
 fn sides(rng: &mut Rng) -> (usize, usize) {
@@ -135,8 +179,19 @@ fn fitting(rng: &mut Rng, height: usize, width: usize) -> Call {
 /// One rule or more is broken.
 fn break_rules(rng: &mut Rng, call: &mut Call) {
     let patterns = [
-        0, 0x8000_0000, 1, 0x40FF_FFFF, 0x4348_0001, 0x3F80_0000, 0x4080_0000, 0xC120_0000,
-        0x7F80_0000, 0xFF80_0000, 0x7FC0_0000, 0xFFC0_0001, 0x7F7F_FFFF,
+        0,
+        0x8000_0000,
+        1,
+        0x40FF_FFFF,
+        0x4348_0001,
+        0x3F80_0000,
+        0x4080_0000,
+        0xC120_0000,
+        0x7F80_0000,
+        0xFF80_0000,
+        0x7FC0_0000,
+        0xFFC0_0001,
+        0x7F7F_FFFF,
     ];
     let numbers = [MOST + 1, 5000, 1 << 24, (1 << 24) + 1, 1 << 32, 1 << 63, usize::MAX];
     for _ in 0..rng.between(1, 2) {
@@ -178,7 +233,8 @@ impl Cases {
         let mut lent = Lent::new(out);
         let have = port::sample(Board::of(&record), planes, x, y, size, lent.slice());
         let refusal = rule(call, planes);
-        let fit = !matches!(refusal, Some(1 | 4)) && planes.len() >= 3 * record.height * record.width;
+        let fit =
+            !matches!(refusal, Some(1 | 4)) && planes.len() >= 3 * record.height * record.width;
         // the Rust, where its planes can be built and a cell of that size can be held
         let rust = (fit && size <= 100)
             .then(|| caught(|| steps::board(&record, planes).extra_save_cell(x, y, size)))

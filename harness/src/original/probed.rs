@@ -9,11 +9,19 @@ use crate::record::Record;
 
 /// Locates: what was seen, and the record and the planes afterwards. `None` for the record is a
 /// panic.
-pub fn locate(numbers: Vec<usize>, height: usize, width: usize) -> (Seen, Option<Record>, Vec<f32>) {
+pub fn locate(
+    numbers: Vec<usize>,
+    height: usize,
+    width: usize,
+) -> (Seen, Option<Record>, Vec<f32>) {
     let mut board = ImageBoard::new(numbers, height, width);
     probe::start(None);
     let whole = caught(|| board.get_pos_pixel()).is_some();
-    (probe::take(), whole.then(|| record(&board)), board.data.into_iter().flatten().flatten().collect())
+    (
+        probe::take(),
+        whole.then(|| record(&board)),
+        board.data.into_iter().flatten().flatten().collect(),
+    )
 }
 
 /// The widened bounds and both score lists for an edge picture, its sides (or those of a narrowed

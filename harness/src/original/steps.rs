@@ -56,9 +56,8 @@ const STARTS: [[usize; 5]; 5] =
 /// The list of column scores, as `get_pos_pixel` builds it.
 pub fn column_scores(edges: &Points, [r_1, r_2, c_1, c_2]: [usize; 4]) -> Vec<usize> {
     let board = nothing();
-    let score = |c: usize, k: usize| {
-        r_2 - r_1 - board.get_c_sum(edges, STARTS[k], c, c + 4, r_1, r_2)[k]
-    };
+    let score =
+        |c: usize, k: usize| r_2 - r_1 - board.get_c_sum(edges, STARTS[k], c, c + 4, r_1, r_2)[k];
     let mut out = vec![score(c_1, 0), score(c_1, 1)];
     out.extend((c_1..c_2 - 4).map(|c| score(c, 2)));
     out.extend([score(c_2 - 4, 3), score(c_2 - 4, 4)]);
@@ -68,9 +67,8 @@ pub fn column_scores(edges: &Points, [r_1, r_2, c_1, c_2]: [usize; 4]) -> Vec<us
 /// The list of row scores, as `get_pos_pixel` builds it.
 pub fn row_scores(edges: &Points, [r_1, r_2, c_1, c_2]: [usize; 4]) -> Vec<usize> {
     let board = nothing();
-    let score = |r: usize, k: usize| {
-        c_2 - c_1 - board.get_r_sum(edges, STARTS[k], c_1, c_2, r, r + 4)[k]
-    };
+    let score =
+        |r: usize, k: usize| c_2 - c_1 - board.get_r_sum(edges, STARTS[k], c_1, c_2, r, r + 4)[k];
     let mut out = vec![score(r_1, 0), score(r_1, 1)];
     out.extend((r_1..r_2 - 4).map(|r| score(r, 2)));
     out.extend([score(r_2 - 4, 3), score(r_2 - 4, 4)]);
