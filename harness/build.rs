@@ -1,6 +1,7 @@
 //! Finds the Rust original, and the static libraries of the port.
 
 use std::env;
+use std::fs;
 use std::path::{Path, PathBuf};
 
 /// The folder above base/src/obr.rs, unless FOLGUTAN_OBR names another; from the repository's root.
@@ -15,8 +16,66 @@ fn main() {
     }
 }
 
-/// Hands the file's path to src/original.rs, which includes it as it is. Where a comparison wants a
-/// value of a local, a copy with lines added, and none changed, is made here in OUT_DIR.
+/// Lines of the original, each there once, and what the probed copy has before them. Without a
+/// stand-in, `edges` and `bounds` of src/original/probe.rs hand back what they are handed.
+const ADDED: &[(&str, &[&str])] = &[
+    (
+        "        let [mut r_1, mut r_2, mut c_1, mut c_2, mut r_p_1, mut r_p_2, mut c_p_1, mut c_p_2] =",
+        &["crate::original::probe::first(&x_bw3);"],
+    ),
+    (
+        "            let [r_1_, r_2_, c_1_, c_2_, r_p_1_, r_p_2_, c_p_1_, c_p_2_] = self.get_r12c12(&x_bw3);",
+        &["crate::original::probe::narrowed();"],
+    ),
+    (
+        "        for c in (1..c_1 + 1).rev() {",
+        &[
+            "let x_bw3 = crate::original::probe::edges(x_bw3);",
+            "let [row, column] = crate::original::probe::sides([row, column]);",
+            "let [mut r_1, mut r_2, mut c_1, mut c_2, r_p_1, r_p_2, c_p_1, c_p_2] = crate::original::probe::bounds([r_1, r_2, c_1, c_2, r_p_1, r_p_2, c_p_1, c_p_2]);",
+        ],
+    ),
+    ("        let mut c_sum = vec![];", &["crate::original::probe::widened([r_1, r_2, c_1, c_2]);"]),
+    (
+        "        let (pixelc, c0, c) = self.get_line(c_sum);",
+        &["crate::original::probe::scores(&c_sum, &r_sum);"],
+    ),
+    (
+        "        let (pixelr, r0, r) = self.get_line(r_sum);",
+        &["crate::original::probe::columns(pixelc);"],
+    ),
+    (
+        "        let nn = ((lines[lineslen - 1] - lines[0] + 2) as f32 / (max_j as f32 / 4.0)) as usize;",
+        &["crate::original::probe::votes(max_num as usize);"],
+    ),
+];
+
+/// A copy of the original in OUT_DIR with lines added, and none changed, that store locals.
+fn probed(file: &Path) -> PathBuf {
+    let text = fs::read_to_string(file).expect("the Rust original can be read");
+    let mut out = String::new();
+    let mut found = 0;
+    for line in text.lines() {
+        for (before, added) in ADDED {
+            if line == *before {
+                found += 1;
+                for extra in *added {
+                    out.push_str(extra);
+                    out.push('\n');
+                }
+            }
+        }
+        out.push_str(line);
+        out.push('\n');
+    }
+    assert_eq!(found, ADDED.len(), "each line to probe is in the Rust original once");
+    let copy = PathBuf::from(env::var("OUT_DIR").expect("cargo sets it")).join("obr_probed.rs");
+    fs::write(&copy, out).expect("the probed copy can be written");
+    copy
+}
+
+/// Hands the file's path to src/original.rs, which includes it as it is, and the path of the probed
+/// copy to src/original/probed.rs.
 fn original(root: &Path) {
     println!("cargo:rerun-if-env-changed=FOLGUTAN_OBR");
     let folder = env::var_os("FOLGUTAN_OBR").map_or(PathBuf::from(USUAL), PathBuf::from);
@@ -29,6 +88,7 @@ fn original(root: &Path) {
     }
     println!("cargo:rerun-if-changed={}", file.display());
     println!("cargo:rustc-env=FOLGUTAN_OBR_FILE={}", file.display());
+    println!("cargo:rustc-env=FOLGUTAN_OBR_PROBED={}", probed(&file).display());
 }
 
 fn port(root: &Path) {

@@ -26,12 +26,41 @@ extern "C" {
 #define FOLGUTAN_LEAST_SIDE 12
 #define FOLGUTAN_MOST_SIDE 4096
 
+/* The least side of planes that are worked on: a narrowed screen is smaller
+ * than a loaded one. */
+#define FOLGUTAN_LEAST_PLANE_SIDE 4
+
+/* Limits of a list of scores: its length and its entries. */
+#define FOLGUTAN_LEAST_LIST 4
+#define FOLGUTAN_MOST_LIST 4096
+#define FOLGUTAN_MOST_SCORE 4096
+
+/* Limits of sampling: both pitches, the numbers of a cell and of the record,
+ * and the size of a sampled cell. */
+#define FOLGUTAN_LEAST_PITCH 8.0f
+#define FOLGUTAN_MOST_PITCH 200.0f
+#define FOLGUTAN_MOST_NUMBER 4096
+#define FOLGUTAN_MOST_SIZE 64
+
 /* Answers. Where a call finds several faults, its own list of refusals says
  * which is found first (01, How each operation declines). */
 #define FOLGUTAN_DONE 0         /* the work was done */
 #define FOLGUTAN_BAD_SIDE 1     /* a side is outside its limits */
 #define FOLGUTAN_SHORT_PIXELS 2 /* too few pixel bytes */
 #define FOLGUTAN_SHORT_SLICE 3  /* another lent slice is too short */
+#define FOLGUTAN_BAD_VALUE 4    /* a plane value is not 0.0 to 1.0, or is -0.0 */
+#define FOLGUTAN_TOO_SMALL 5    /* no board was found before the screen was too small */
+#define FOLGUTAN_COLUMNS_NO_GAP 6  /* no two neighbouring lines more than 5 apart */
+#define FOLGUTAN_COLUMNS_TOO_FAR 7 /* the lines are 206 or more apart */
+#define FOLGUTAN_ROWS_NO_GAP 8     /* as 6, of the rows */
+#define FOLGUTAN_ROWS_TOO_FAR 9    /* as 7, of the rows */
+#define FOLGUTAN_BAD_PITCH 10      /* a pitch is not 8.0 to 200.0 */
+#define FOLGUTAN_BAD_NUMBER 11     /* a number is above its limit */
+#define FOLGUTAN_OUTSIDE 12        /* a sampled place is not in the picture */
+
+/* Reading one list has the two answers of the columns. */
+#define FOLGUTAN_NO_GAP FOLGUTAN_COLUMNS_NO_GAP
+#define FOLGUTAN_TOO_FAR FOLGUTAN_COLUMNS_TOO_FAR
 
 /* The board record (01, Load). It is passed and handed back by value. */
 typedef struct {
@@ -67,6 +96,139 @@ typedef struct {
 folgutan_loaded folgutan_load(size_t height, size_t width,
                               const uint8_t *pixels, size_t pixels_len,
                               float *planes, size_t planes_len);
+
+/* The gradient of three planes (01, Gradient and threshold).
+ *
+ * planes: as loading leaves them; plane k (0, 1, 2) is the height * width
+ *   entries from k * height * width on, rows first.
+ * out: (height - 2) * (width - 2) values, rows first: at (i, j) the largest
+ *   magnitude of the six sums over the 3 by 3 points from (i, j) on.
+ *
+ * FOLGUTAN_DONE: the first (height - 2) * (width - 2) entries of out are
+ *   written, and those further on keep their content.
+ * Refusals, the first that holds:
+ *   FOLGUTAN_BAD_SIDE     height or width is outside 4 to 4096
+ *   FOLGUTAN_SHORT_SLICE  planes_len is below 3 * height * width, or out_len
+ *                         below (height - 2) * (width - 2)
+ *   FOLGUTAN_BAD_VALUE    one of the first 3 * height * width plane values is
+ *                         not 0.0 to 1.0, or is -0.0
+ *   Then nothing is written. */
+uint32_t folgutan_gradient(size_t height, size_t width,
+                           const float *planes, size_t planes_len,
+                           float *out, size_t out_len);
+
+/* What locating hands back. Quarters and votes are 0 unless the answer is 0;
+ * narrowed is 0 after FOLGUTAN_BAD_SIDE, FOLGUTAN_SHORT_SLICE and
+ * FOLGUTAN_BAD_VALUE. */
+typedef struct {
+    folgutan_board board;
+    uint32_t answer;
+    uint32_t quarterr, quarterc;  /* the pitches in quarters of a pixel */
+    uint32_t votesr, votesc;      /* of each pitch with its offset */
+    uint32_t narrowed;            /* how often the planes were narrowed */
+} folgutan_located;
+
+/* Finds a board in the planes of a screen (01, Locating).
+ *
+ * board: only its sides, h and w, are looked at.
+ * planes: 3 * h * w values, as loading leaves them.
+ * edges: at least h * w bytes.
+ * scores: at least h + w entries.
+ * scratch_f32, scratch_u8: at least h * w entries each; scratch_u32: at least
+ *   4 * (h + w). Their content does not matter, and all of it is free
+ *   afterwards, on refusals too.
+ *
+ * FOLGUTAN_DONE: the record is the board's. r_1, c_1, r0, c0 and the pitches
+ *   are in pixels of the picture that was read; the sides are those of the
+ *   planes as they are left. The count of rows or of columns can be 0.
+ * Refusals, the first that holds:
+ *   FOLGUTAN_BAD_SIDE     h or w is outside 12 to 4096
+ *   FOLGUTAN_SHORT_SLICE  one of the six slices is too short
+ *   FOLGUTAN_BAD_VALUE    one of the first 3 * h * w plane values is not 0.0
+ *                         to 1.0, or is -0.0
+ *   Then nothing but scratch is written, and the record is handed back as
+ *   given. Further refusals:
+ *   FOLGUTAN_TOO_SMALL        a board that covers more than a third of the
+ *                             picture was not found before a side, less 2, was
+ *                             64 or below
+ *   FOLGUTAN_COLUMNS_NO_GAP   no two neighbouring column lines are more than 5
+ *                             apart
+ *   FOLGUTAN_COLUMNS_TOO_FAR  column lines are some 206 or more apart
+ *   FOLGUTAN_ROWS_NO_GAP, FOLGUTAN_ROWS_TOO_FAR  the same of the rows
+ *   Then the record has the new sides, and its other fields are as given.
+ *
+ * After FOLGUTAN_DONE and the further refusals:
+ * - planes hold the picture, narrowed as often as `narrowed` says and packed by
+ *   the new sides, then 0.0 up to the old 3 * h * w;
+ * - edges start with the first edge picture, (h - 2) * (w - 2) bytes, rows
+ *   first, 1 for set and 0 for unset;
+ * - scores start with the column scores, followed by the row scores; after
+ *   FOLGUTAN_TOO_SMALL they are unchanged.
+ * Entries further on keep their content. */
+folgutan_located folgutan_locate(folgutan_board board,
+                                 float *planes, size_t planes_len,
+                                 uint8_t *edges, size_t edges_len,
+                                 uint32_t *scores, size_t scores_len,
+                                 float *scratch_f32, size_t scratch_f32_len,
+                                 uint8_t *scratch_u8, size_t scratch_u8_len,
+                                 uint32_t *scratch_u32, size_t scratch_u32_len);
+
+/* What a line reading hands back: zeros unless the answer is 0. */
+typedef struct {
+    uint32_t answer;
+    float pitch;    /* in quarters of a pixel: 8.0 to 200.0 */
+    size_t offset;  /* of the first line */
+    size_t count;   /* of cells; it can be 0 */
+    size_t votes;   /* of this pitch with this offset: at least 1 */
+} folgutan_reading;
+
+/* Reads pitch, offset and count of a list of scores (01, Lines and votes).
+ *
+ * list: the scores, and only they: its length is the number of scores.
+ * scratch: at least 4 * list_len entries. Its content does not matter, and all
+ *   of it is free afterwards, on refusals too.
+ *
+ * FOLGUTAN_DONE: the reading.
+ * Refusals, the first that holds:
+ *   FOLGUTAN_BAD_SIDE     list_len is outside 4 to 4096
+ *   FOLGUTAN_SHORT_SLICE  scratch_len is below 4 * list_len
+ *   FOLGUTAN_BAD_NUMBER   an entry is above 4096
+ *   FOLGUTAN_NO_GAP       no two neighbouring lines are more than 5 apart
+ *   FOLGUTAN_TOO_FAR      the lines are some 206 or more apart
+ *   Then pitch, offset, count and votes are zeros. */
+folgutan_reading folgutan_read_line(const uint32_t *list, size_t list_len,
+                                    uint32_t *scratch, size_t scratch_len);
+
+/* Samples one cell of a board (01, Cell sampling).
+ *
+ * board: sides, corner, offsets and pitches are taken; r and c are not looked
+ *   at, so that a cell outside the board can be sampled too.
+ * planes: as locating leaves them.
+ * x, y: the board row and the board column of the cell.
+ * out: 3 * size * size values; entry k * size * size + i * size + j is plane k
+ *   at point (i, j) of the cell. Size 0 writes nothing.
+ *
+ * Each call reads all planes for FOLGUTAN_BAD_VALUE, whatever the size of the
+ * cell: one pass over the planes, at most about 0.4 ns a value (0.17 ns, 1 ms
+ * a call, was measured at 1920 by 1080).
+ *
+ * FOLGUTAN_DONE: the first 3 * size * size entries of out are written, and
+ *   those further on keep their content.
+ * Refusals, the first that holds:
+ *   FOLGUTAN_BAD_SIDE     board.height or board.width is outside 4 to 4096
+ *   FOLGUTAN_SHORT_SLICE  planes_len is below 3 * height * width
+ *   FOLGUTAN_BAD_VALUE    one of these plane values is not 0.0 to 1.0, or is
+ *                         -0.0
+ *   FOLGUTAN_BAD_PITCH    pixelr or pixelc is not 8.0 to 200.0
+ *   FOLGUTAN_BAD_NUMBER   x, y, r_1, c_1, r0 or c0 is above 4096, or size
+ *                         above 64
+ *   FOLGUTAN_SHORT_SLICE  out_len is below 3 * size * size
+ *   FOLGUTAN_OUTSIDE      a sampled row or column is not in the picture
+ *   Then nothing is written. */
+uint32_t folgutan_sample(folgutan_board board,
+                         const float *planes, size_t planes_len,
+                         size_t x, size_t y, size_t size,
+                         float *out, size_t out_len);
 
 #ifdef __cplusplus
 }

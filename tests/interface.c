@@ -5,6 +5,7 @@
 #include "check.h"
 
 #include <stdio.h>
+#include <stdlib.h>
 #include <string.h>
 
 _Static_assert(sizeof(size_t) == 8, "the library is for x86-64");
@@ -26,9 +27,34 @@ _Static_assert(offsetof(folgutan_loaded, board) == 0, "board");
 _Static_assert(offsetof(folgutan_loaded, answer) == 72, "answer");
 _Static_assert(sizeof(folgutan_loaded) == 80, "folgutan_loaded");
 
+_Static_assert(offsetof(folgutan_located, board) == 0, "board");
+_Static_assert(offsetof(folgutan_located, answer) == 72, "answer");
+_Static_assert(offsetof(folgutan_located, quarterr) == 76, "quarterr");
+_Static_assert(offsetof(folgutan_located, quarterc) == 80, "quarterc");
+_Static_assert(offsetof(folgutan_located, votesr) == 84, "votesr");
+_Static_assert(offsetof(folgutan_located, votesc) == 88, "votesc");
+_Static_assert(offsetof(folgutan_located, narrowed) == 92, "narrowed");
+_Static_assert(sizeof(folgutan_located) == 96, "folgutan_located");
+
+_Static_assert(offsetof(folgutan_reading, answer) == 0, "answer");
+_Static_assert(offsetof(folgutan_reading, pitch) == 4, "pitch");
+_Static_assert(offsetof(folgutan_reading, offset) == 8, "offset");
+_Static_assert(offsetof(folgutan_reading, count) == 16, "count");
+_Static_assert(offsetof(folgutan_reading, votes) == 24, "votes");
+_Static_assert(sizeof(folgutan_reading) == 32, "folgutan_reading");
+
 _Static_assert(FOLGUTAN_LEAST_SIDE == 12 && FOLGUTAN_MOST_SIDE == 4096, "limits");
 _Static_assert(FOLGUTAN_DONE == 0 && FOLGUTAN_BAD_SIDE == 1, "answers");
 _Static_assert(FOLGUTAN_SHORT_PIXELS == 2 && FOLGUTAN_SHORT_SLICE == 3, "answers");
+_Static_assert(FOLGUTAN_BAD_VALUE == 4 && FOLGUTAN_TOO_SMALL == 5, "answers");
+_Static_assert(FOLGUTAN_COLUMNS_NO_GAP == 6 && FOLGUTAN_COLUMNS_TOO_FAR == 7, "answers");
+_Static_assert(FOLGUTAN_ROWS_NO_GAP == 8 && FOLGUTAN_ROWS_TOO_FAR == 9, "answers");
+_Static_assert(FOLGUTAN_NO_GAP == 6 && FOLGUTAN_TOO_FAR == 7, "answers");
+_Static_assert(FOLGUTAN_BAD_PITCH == 10 && FOLGUTAN_BAD_NUMBER == 11, "answers");
+_Static_assert(FOLGUTAN_OUTSIDE == 12, "answers");
+_Static_assert(FOLGUTAN_LEAST_PLANE_SIDE == 4 && FOLGUTAN_MOST_SIZE == 64, "limits");
+_Static_assert(FOLGUTAN_LEAST_LIST == 4 && FOLGUTAN_MOST_LIST == 4096, "limits");
+_Static_assert(FOLGUTAN_MOST_SCORE == 4096 && FOLGUTAN_MOST_NUMBER == 4096, "limits");
 
 static unsigned long checks, failures;
 
@@ -54,9 +80,50 @@ uint32_t canary(size_t at)
     return patterns[at % 5];
 }
 
+float float_of(uint32_t bits)
+{
+    float x;
+    memcpy(&x, &bits, sizeof x);
+    return x;
+}
+
+void *memory(size_t n, size_t bytes)
+{
+    void *place = malloc((n + 1) * bytes);
+    if (place == NULL) {
+        fprintf(stderr, "interface: no memory\n");
+        exit(1);
+    }
+    return place;
+}
+
+lent_floats lend(size_t len)
+{
+    lent_floats lent = {memory(len + 2 * MARGIN, sizeof(float)), NULL, len};
+    lent.at = lent.whole + MARGIN;
+    for (size_t at = 0; at < len + 2 * MARGIN; at++) {
+        uint32_t bits = canary(at);
+        memcpy(lent.whole + at, &bits, sizeof bits);
+    }
+    return lent;
+}
+
+int kept(lent_floats lent, size_t written)
+{
+    int same = 1;
+    for (size_t at = 0; at < lent.len + 2 * MARGIN; at++)
+        if (at < MARGIN || at >= MARGIN + written)
+            same &= bits_of(lent.whole[at]) == canary(at);
+    return same;
+}
+
 int main(void)
 {
     test_load();
+    test_gradient();
+    test_locate();
+    test_read_line();
+    test_sample();
     printf("interface: %lu checks\n", checks);
     if (failures > 0)
         fprintf(stderr, "interface: %lu failed\n", failures);

@@ -7,11 +7,6 @@
 #include <stdlib.h>
 #include <string.h>
 
-/* Entries around the lent planes, so that a write outside them shows. */
-#define MARGIN 16
-
-#define COUNT(list) (sizeof(list) / sizeof((list)[0]))
-
 static uint8_t pixel_byte(size_t at)
 {
     return (uint8_t)(at * 7 + at / 251);

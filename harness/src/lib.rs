@@ -9,6 +9,7 @@ pub mod compare;
 pub mod original;
 #[cfg(feature = "port")]
 pub mod port;
+pub mod quiet;
 pub mod record;
 pub mod rng;
 pub mod screens;

@@ -1,5 +1,9 @@
-//! The Rust original, unchanged. The modules below it reach its private fields and functions.
+//! The Rust original, unchanged. The modules below it reach its private fields and functions;
+//! `probed` has a copy of it with lines added, which store the locals that `probe` holds.
 
 include!(env!("FOLGUTAN_OBR_FILE"));
 
 pub mod load;
+pub mod probe;
+pub mod probed;
+pub mod steps;

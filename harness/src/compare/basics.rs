@@ -25,7 +25,7 @@ pub fn truncated(run: &Run) -> Outcome {
 
 pub fn larger(run: &Run) -> Outcome {
     let mut rng = Rng::new(run.seed);
-    let mut count = 0;
+    let mut count = 0u64;
     let mut one = |a: f32, b: f32| -> Result<(), String> {
         count += 1;
         let want = if a > b { a } else { b };
@@ -43,12 +43,12 @@ pub fn larger(run: &Run) -> Outcome {
         let (a, b) = (rng.word(), rng.word());
         one(f32::from_bits(a), f32::from_bits(b))?;
     }
-    Ok(count)
+    Ok(count.into())
 }
 
 pub fn entry(run: &Run) -> Outcome {
     let mut rng = Rng::new(run.seed);
-    let mut count = 0;
+    let mut count = 0u64;
     for _ in 0..run.choose(5, 100) {
         for len in 0..=300 {
             list(&mut rng, len, &mut count)?;
@@ -61,7 +61,7 @@ pub fn entry(run: &Run) -> Outcome {
         list(&mut rng, 1 << 20, &mut count)?;
         list(&mut rng, 1 << 24, &mut count)?;
     }
-    Ok(count)
+    Ok(count.into())
 }
 
 /// One list, with the bound exact and larger: all entries of a short one, some of a long one, and
@@ -114,7 +114,7 @@ fn each(
     takes: impl Fn(f32) -> bool,
     differs: impl Fn(f32) -> Option<String>,
 ) -> Outcome {
-    let mut count = 0;
+    let mut count = 0u64;
     let mut one = |bits: u32| -> Result<(), String> {
         let x = f32::from_bits(bits);
         if !takes(x) {
@@ -136,7 +136,7 @@ fn each(
             one(rng.word())?;
         }
     }
-    Ok(count)
+    Ok(count.into())
 }
 
 /// Zeros, subnormal values, powers of two with their neighbours, 1.0 with its neighbours,

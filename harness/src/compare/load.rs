@@ -22,7 +22,7 @@ pub fn compare(run: &Run) -> Outcome {
     for _ in 0..run.choose(10_000, 300_000) {
         random(&mut cases)?;
     }
-    Ok(cases.count)
+    Ok(cases.count.into())
 }
 
 /// Each byte value at each place of a pixel, at sixteen places of the row.

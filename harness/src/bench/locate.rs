@@ -1,0 +1,108 @@
+//! Locating alone and with loading. What is lent to the port is warm; planes and numbers are made
+//! anew each time, outside the measured part.
+
+use super::screen::Kind;
+use super::{least, timed};
+use crate::original::{load, ImageBoard};
+use crate::port::{self, Located, Slices};
+use crate::quiet::caught;
+use crate::record::Record;
+use std::hint::black_box;
+use std::time::Duration;
+
+/// The slices that locating asks for.
+struct Room {
+    planes: Vec<f32>,
+    edges: Vec<u8>,
+    scores: Vec<u32>,
+    floats: Vec<f32>,
+    bytes: Vec<u8>,
+    words: Vec<u32>,
+}
+
+impl Room {
+    fn new(height: usize, width: usize) -> Room {
+        let (area, sides) = (height * width, height + width);
+        Room {
+            planes: vec![0.0; 3 * area],
+            edges: vec![0; area],
+            scores: vec![0; sides],
+            floats: vec![0.0; area],
+            bytes: vec![0; area],
+            words: vec![0; 4 * sides],
+        }
+    }
+
+    fn locate(&mut self, board: port::Board) -> Located {
+        let Room { planes, edges, scores, floats, bytes, words } = self;
+        port::locate(board, planes, Slices { edges, scores, floats, bytes, words })
+    }
+}
+
+/// Both came to the same record, and the screen was as its kind says.
+fn checked(kind: Kind, board: &ImageBoard, located: &Located) {
+    let record = load::record(board);
+    if located.answer == 0 {
+        assert_eq!(record, located.board.record(), "both did the same work");
+    } else {
+        assert_eq!((record.height, record.width), (located.board.height, located.board.width));
+    }
+    match kind {
+        Kind::Clean | Kind::Noisy => assert_eq!((located.answer, located.narrowed), (0, 0)),
+        Kind::Blank => assert_eq!(located.answer, 5),
+        Kind::Narrowed => assert!(located.narrowed > 0),
+    }
+}
+
+pub fn measure(kind: Kind, height: usize, width: usize) -> (Duration, Duration) {
+    let pixels = kind.pixels(height, width);
+    let numbers = load::numbers(&pixels);
+    let planes = kind.planes(height, width);
+    let mut room = Room::new(height, width);
+    let given = port::Board::of(&Record { height, width, ..Record::default() });
+    let mut rust = None;
+    let mut port = None;
+    let times = least(
+        || {
+            let mut board = ImageBoard::new(numbers.clone(), height, width);
+            let time = timed(|| caught(|| black_box(&mut board).get_pos_pixel()));
+            rust = Some(board);
+            time
+        },
+        || {
+            room.planes.copy_from_slice(&planes);
+            timed(|| port = Some(room.locate(black_box(given))))
+        },
+    );
+    checked(kind, &rust.unwrap(), &port.unwrap());
+    times
+}
+
+pub fn with_load(kind: Kind, height: usize, width: usize) -> (Duration, Duration) {
+    let pixels = kind.pixels(height, width);
+    let numbers = load::numbers(&pixels);
+    let mut room = Room::new(height, width);
+    let mut rust = None;
+    let mut port = None;
+    let times = least(
+        || {
+            let numbers = numbers.clone();
+            let mut board = None;
+            let time = timed(|| {
+                let mut own = ImageBoard::new(black_box(numbers), height, width);
+                caught(|| own.get_pos_pixel());
+                board = Some(own);
+            });
+            rust = board;
+            time
+        },
+        || {
+            timed(|| {
+                let loaded = port::load(height, width, black_box(&pixels), &mut room.planes);
+                port = Some(room.locate(loaded.board));
+            })
+        },
+    );
+    checked(kind, &rust.unwrap(), &port.unwrap());
+    times
+}

@@ -1,0 +1,365 @@
+//! Locating beside `get_pos_pixel`: every field, the planes, the first edge picture and both score
+//! lists. Panics of the Rust are 6 and 8, pitches 0.0 are 7 and 9, a quiet return is 5. The lists
+//! and the votes come from the probed copy, which must do as the unchanged file does.
+
+use super::lent::Lent;
+use super::values::UNFIT;
+use super::{Outcome, Run, Tally};
+use crate::original::load::{numbers, planes, record};
+use crate::original::{probed, ImageBoard};
+use crate::port::{self, Board, Located, Slices};
+use crate::quiet::caught;
+use crate::record::Record;
+use crate::rng::Rng;
+use crate::screens::{self, Drawn};
+
+const LEAST: usize = 12;
+const MOST: usize = 4096;
+
+pub fn compare(run: &Run) -> Outcome {
+    let mut cases = Cases::new(run.seed);
+    cases.screen(LEAST, LEAST, &screens::blank(LEAST, LEAST, 0))?;
+    for _ in 0..run.choose(1_500, 110_000) {
+        let (height, width) = (cases.rng.between(LEAST, 80), cases.rng.between(LEAST, 80));
+        cases.any(height, width)?;
+    }
+    for _ in 0..run.choose(30, 2_000) {
+        let (height, width) = (cases.rng.between(201, 330), cases.rng.between(201, 330));
+        let pixels = screens::textured(&mut cases.rng, height, width, 1);
+        cases.screen(height, width, &pixels)?;
+    }
+    for _ in 0..run.choose(4, 200) {
+        let (height, width) = (cases.rng.between(603, 760), cases.rng.between(603, 760));
+        let pixels = screens::textured(&mut cases.rng, height, width, 3);
+        cases.screen(height, width, &pixels)?;
+    }
+    for _ in 0..run.choose(6, 200) {
+        cases.far(true)?;
+        cases.far(false)?;
+    }
+    for _ in 0..run.choose(10, 300) {
+        let (height, width) = (cases.rng.between(80, 400), cases.rng.between(80, 400));
+        cases.any(height, width)?;
+    }
+    for (height, width) in [(LEAST, MOST), (MOST, LEAST), (205, 1500), (1400, 210)] {
+        for _ in 0..run.choose(1, 30) {
+            cases.any(height, width)?;
+        }
+    }
+    if run.long {
+        for _ in 0..40 {
+            let (height, width) = (cases.rng.between(400, 2200), cases.rng.between(400, 2200));
+            cases.any(height, width)?;
+        }
+        for (height, width) in [(1080, 1920), (2420, 2604), (MOST, MOST)] {
+            cases.any(height, width)?;
+        }
+    }
+    refusals(&mut cases)?;
+    let answers: Vec<String> =
+        (0..10).filter(|&n| n != 2).map(|n| format!("{n}: {}", cases.answers[n])).collect();
+    Ok(Tally {
+        cases: cases.count,
+        note: format!(
+            "; answers {}; read after 0, 1, 2 and more narrowings: {:?}; answer 7 where the Rust \
+             panics on the rows: {}",
+            answers.join(", "),
+            cases.read_after,
+            cases.far_panics
+        ),
+    })
+}
+
+fn refusals(cases: &mut Cases) -> Result<(), String> {
+    // short slices, alone and together, with a bad value too
+    for _ in 0..300 {
+        let (height, width) = (cases.rng.between(LEAST, 30), cases.rng.between(LEAST, 30));
+        let pixels = screens::noise(&mut cases.rng, height, width);
+        let mut call = Call::fitting(height, width);
+        for _ in 0..cases.rng.below(3) {
+            let which = cases.rng.below(6);
+            let by = cases.rng.pick(&[1, 2, 30, 5000]);
+            call.lengths[which] = call.lengths[which].saturating_sub(by);
+        }
+        if cases.rng.below(2) == 0 {
+            call.bad = Some((cases.rng.below(3 * height * width), cases.rng.pick(UNFIT)));
+        }
+        cases.one(&pixels, &call)?;
+    }
+    for side in [0, 1, 4, 11, MOST + 1, 1 << 32, 1 << 63, usize::MAX] {
+        for turn in 0..3 {
+            let pixels = screens::noise(&mut cases.rng, 20, 20);
+            let mut call = Call::fitting(20, 20);
+            if turn != 0 {
+                call.given.height = side;
+            }
+            if turn != 1 {
+                call.given.width = side;
+            }
+            cases.one(&pixels, &call)?;
+            call.lengths = [0; 6];
+            cases.one(&pixels, &call)?;
+        }
+    }
+    Ok(())
+}
+
+/// One call but for the pixels.
+#[derive(Clone, Debug)]
+struct Call {
+    /// Sides of the pixels.
+    height: usize,
+    width: usize,
+    given: Record,
+    /// Planes, edges, scores, and the scratch slices.
+    lengths: [usize; 6],
+    bad: Option<(usize, u32)>,
+}
+
+impl Call {
+    fn fitting(height: usize, width: usize) -> Call {
+        let area = height * width;
+        let sides = height + width;
+        Call {
+            height,
+            width,
+            given: Record { height, width, ..Record::default() },
+            lengths: [3 * area, area, sides, area, area, 4 * sides],
+            bad: None,
+        }
+    }
+
+    /// The refusal that 01 asks for before anything is done.
+    fn rule(&self) -> Option<u32> {
+        let Record { height, width, .. } = self.given;
+        let fits = |side| (LEAST..=MOST).contains(&side);
+        if !fits(height) || !fits(width) {
+            return Some(1);
+        }
+        let asked = Call::fitting(height, width).lengths;
+        if self.lengths.iter().zip(asked).any(|(&have, want)| have < want) {
+            return Some(3);
+        }
+        self.bad.is_some_and(|(at, _)| at < 3 * height * width).then_some(4)
+    }
+}
+
+struct Cases {
+    rng: Rng,
+    count: u64,
+    answers: [u64; 10],
+    read_after: [u64; 4],
+    far_panics: u64,
+}
+
+/// What the Rust makes of a screen.
+struct Wanted {
+    located: Located,
+    planes: Vec<f32>,
+    edges: Vec<Vec<bool>>,
+    scores: Vec<usize>,
+    far_panic: bool,
+}
+
+impl Cases {
+    fn new(seed: u64) -> Cases {
+        Cases { rng: Rng::new(seed), count: 0, answers: [0; 10], read_after: [0; 4], far_panics: 0 }
+    }
+
+    /// Noise, a drawn board with or without noise, one colour, or texture.
+    fn any(&mut self, height: usize, width: usize) -> Result<(), String> {
+        let rng = &mut self.rng;
+        let pixels = match rng.below(16) {
+            0 | 1 => screens::noise(rng, height, width),
+            2 => screens::blank(height, width, rng.word() as u8),
+            3 => screens::textured(rng, height.max(30), width.max(30), 1),
+            kind => {
+                let most = (height.min(width) / 2).clamp(8, 40);
+                let mut pixels = Drawn::filling(rng, height, width, 6, most).screen(height, width);
+                if kind > 11 {
+                    screens::noisy(rng, &mut pixels, 4);
+                }
+                pixels
+            }
+        };
+        if pixels.len() != 4 * height * width {
+            return self.screen(height.max(30), width.max(30), &pixels);
+        }
+        self.screen(height, width, &pixels)
+    }
+
+    /// Cells of 200 to 220 pixels in one direction and small ones in the other. A third of the way
+    /// lies a line, which the scan follows.
+    fn far(&mut self, columns: bool) -> Result<(), String> {
+        let rng = &mut self.rng;
+        let (far, start) = (rng.between(200, 220), rng.between(2, 9));
+        let (low, long) = (rng.between(30, 90), 3 * (far + start - rng.below(3)) + 2);
+        let near = rng.pick(&[4, 5, 9, 12, 15]);
+        let (height, width) = if columns { (low, long) } else { (long, low) };
+        let mut board = Drawn::filling(rng, height, width, 8, 20);
+        (board.down, board.across) = if columns { (near, far) } else { (far, near) };
+        (board.top, board.left) =
+            if columns { (rng.below(9), start) } else { (start, rng.below(9)) };
+        board.rows = (height - board.top - 1) / board.down;
+        board.columns = (width - board.left - 1) / board.across;
+        let pixels = board.screen(height, width);
+        self.screen(height, width, &pixels)
+    }
+
+    fn screen(&mut self, height: usize, width: usize, pixels: &[u8]) -> Result<(), String> {
+        let mut call = Call::fitting(height, width);
+        let rng = &mut self.rng;
+        if rng.below(2) == 0 {
+            // anything in the other fields, and longer slices
+            call.given = Record {
+                height,
+                width,
+                r_1: rng.next() as usize,
+                c_1: rng.below(100),
+                r0: rng.next() as usize,
+                c0: rng.below(100),
+                r: rng.next() as usize,
+                c: rng.below(100),
+                pixelr: rng.word(),
+                pixelc: 0x7FC0_0001,
+            };
+            for len in &mut call.lengths {
+                *len += rng.below(40);
+            }
+        }
+        self.one(pixels, &call)
+    }
+
+    fn one(&mut self, pixels: &[u8], call: &Call) -> Result<(), String> {
+        self.count += 1;
+        self.difference(pixels, call)
+            .map_or(Ok(()), |found| Err(format!("case {}, {call:?}: {found}", self.count)))
+    }
+
+    fn difference(&mut self, pixels: &[u8], call: &Call) -> Option<String> {
+        let (height, width) = (call.height, call.width);
+        let fresh = ImageBoard::new(numbers(pixels), height, width);
+        let mut values: Vec<f32> = planes(&fresh).collect();
+        if let Some((at, bits)) = call.bad {
+            values[at] = f32::from_bits(bits);
+        }
+        let mut lent_planes = Lent::holding(&values, call.lengths[0]);
+        let mut edges = Lent::new(call.lengths[1]);
+        let mut scores = Lent::new(call.lengths[2]);
+        let mut floats: Lent<f32> = Lent::new(call.lengths[3]);
+        let mut bytes: Lent<u8> = Lent::new(call.lengths[4]);
+        let mut words: Lent<u32> = Lent::new(call.lengths[5]);
+        let have = port::locate(
+            Board::of(&call.given),
+            lent_planes.slice(),
+            Slices {
+                edges: edges.slice(),
+                scores: scores.slice(),
+                floats: floats.slice(),
+                bytes: bytes.slice(),
+                words: words.slice(),
+            },
+        );
+        let around = || {
+            floats
+                .around("scratch of binary32")
+                .or_else(|| bytes.around("scratch of bytes"))
+                .or_else(|| words.around("scratch of words"))
+        };
+        if let Some(answer) = call.rule() {
+            self.answers[answer as usize] += 1;
+            values.truncate(call.lengths[0]);
+            let want = refused(&call.given, answer);
+            return unlike(&want, &have)
+                .or_else(|| lent_planes.differs("planes", values))
+                .or_else(|| edges.differs("edges", []))
+                .or_else(|| scores.differs("scores", []))
+                .or_else(around);
+        }
+        let want = match wanted(fresh, pixels, call) {
+            Ok(want) => want,
+            Err(found) => return Some(found),
+        };
+        self.answers[want.located.answer as usize] += 1;
+        if want.located.answer == 0 {
+            self.read_after[(want.located.narrowed as usize).min(3)] += 1;
+        }
+        self.far_panics += want.far_panic as u64;
+        let zeros = std::iter::repeat(0.0).take(values.len() - want.planes.len());
+        unlike(&want.located, &have)
+            .or_else(|| lent_planes.differs("planes", want.planes.iter().copied().chain(zeros)))
+            .or_else(|| edges.differs("edges", want.edges.iter().flatten().map(|&e| e as u8)))
+            .or_else(|| scores.differs("scores", want.scores.iter().map(|&s| s as u32)))
+            .or_else(around)
+    }
+}
+
+fn refused(given: &Record, answer: u32) -> Located {
+    let board = Board::of(given);
+    Located { board, answer, quarterr: 0, quarterc: 0, votesr: 0, votesc: 0, narrowed: 0 }
+}
+
+fn unlike(want: &Located, have: &Located) -> Option<String> {
+    let key = |l: &Located| {
+        (l.answer, l.board.record(), [l.quarterr, l.quarterc, l.votesr, l.votesc, l.narrowed])
+    };
+    (key(want) != key(have)).then(|| format!("Rust {want:?}, port {have:?}"))
+}
+
+/// Runs the unchanged file and the probed copy.
+fn wanted(mut board: ImageBoard, pixels: &[u8], call: &Call) -> Result<Wanted, String> {
+    let whole = caught(|| board.get_pos_pixel()).is_some();
+    let (seen, probed_record, probed_planes) =
+        probed::locate(numbers(pixels), call.height, call.width);
+    let rust = record(&board);
+    let planes: Vec<f32> = planes(&board).collect();
+    let bits = |list: &[f32]| list.iter().map(|x| x.to_bits()).collect::<Vec<_>>();
+    if whole.then_some(rust) != probed_record || bits(&planes) != bits(&probed_planes) {
+        return Err(format!("the probed copy differs: {rust:?}, {probed_record:?}"));
+    }
+
+    let answer = match (&seen.scores, seen.columns) {
+        (None, _) if !whole => return Err("the Rust panics before the scores".into()),
+        (None, _) => 5,
+        (Some(_), None) => 6,
+        (Some(_), Some(0.0)) => 7,
+        (Some(_), Some(_)) if !whole => 8,
+        _ if f32::from_bits(rust.pixelr) == 0.0 => 9,
+        _ => 0,
+    };
+    departures(answer, whole, &rust, seen.widened)?;
+    let given = Record { height: rust.height, width: rust.width, ..call.given };
+    let mut located = refused(if answer == 0 { &rust } else { &given }, answer);
+    located.narrowed = seen.narrowed as u32;
+    if answer == 0 {
+        let quarter = |bits| (f32::from_bits(bits) * 4.0) as u32;
+        (located.quarterr, located.quarterc) = (quarter(rust.pixelr), quarter(rust.pixelc));
+        (located.votesc, located.votesr) = (seen.votes[0] as u32, seen.votes[1] as u32);
+    }
+    let scores = seen.scores.map_or(vec![], |(columns, rows)| [columns, rows].concat());
+    let far_panic = answer == 7 && !whole;
+    Ok(Wanted { located, planes, edges: seen.edges, scores, far_panic })
+}
+
+/// What docs/DIFFERENCES.md says of the Rust's record at 5, 7 and 9.
+fn departures(
+    answer: u32,
+    whole: bool,
+    rust: &Record,
+    widened: Option<[usize; 4]>,
+) -> Result<(), String> {
+    let fresh = Record { height: rust.height, width: rust.width, ..Record::default() };
+    let corner = widened.map(|[r_1, _, c_1, _]| (r_1, c_1)) == Some((rust.r_1, rust.c_1));
+    let as_said = match answer {
+        7 if whole => corner && (rust.pixelc, rust.c0, rust.c) == (0, 0, usize::MAX),
+        9 => corner && (rust.pixelr, rust.r0, rust.r) == (0, 0, usize::MAX) && rust.pixelc != 0,
+        0 => corner,
+        // a panic or a quiet return leaves the record fresh
+        _ => *rust == fresh,
+    };
+    if as_said {
+        Ok(())
+    } else {
+        Err(format!("at {answer} the Rust's record is not as docs/DIFFERENCES.md says: {rust:?}"))
+    }
+}

@@ -1,0 +1,323 @@
+/* Sampling (01, Cell sampling). */
+#include "folgutan.h"
+
+#include "check.h"
+
+#include <stdio.h>
+#include <stdlib.h>
+#include <string.h>
+
+/* Every value tells its plane, row and column apart on small screens. */
+static float plane_value(size_t at)
+{
+    return (float)(at % 16384) / 16384.0f;
+}
+
+/* The sampled row or column of point i. */
+static size_t place_of(size_t corner, size_t offset, float pitch, size_t cell, size_t size,
+                       size_t i)
+{
+    volatile float start = (float)corner + (float)offset;
+    volatile float whole = pitch * (float)cell;
+    volatile float half = pitch / 2.0f;
+    half = half / (float)size;
+    volatile float part = half * ((float)i * 2.0f + 1.0f);
+    start = start + whole;
+    start = start + part;
+    return (size_t)start;
+}
+
+/* What is asked for, and a bad value in the planes. */
+typedef struct {
+    folgutan_board board;
+    size_t planes_len, x, y, size, out_len;
+    size_t bad;
+    uint32_t bits;
+} call;
+
+#define NOWHERE SIZE_MAX
+
+static void sample_case(const char *name, call c, uint32_t answer)
+{
+    char where[240];
+    snprintf(where, sizeof where,
+             "sample, %s: sides %zu, %zu, %zu plane values, cell %zu, %zu, size %zu, %zu outputs",
+             name, c.board.height, c.board.width, c.planes_len, c.x, c.y, c.size, c.out_len);
+
+    float *planes = memory(c.planes_len, sizeof *planes);
+    float *before = memory(c.planes_len, sizeof *before);
+    for (size_t at = 0; at < c.planes_len; at++)
+        planes[at] = at == c.bad ? float_of(c.bits) : plane_value(at);
+    memcpy(before, planes, c.planes_len * sizeof *planes);
+    lent_floats out = lend(c.out_len);
+
+    uint32_t have =
+        folgutan_sample(c.board, planes, c.planes_len, c.x, c.y, c.size, out.at, c.out_len);
+
+    check(have == answer, where, "answer");
+    size_t written = 0;
+    if (answer == FOLGUTAN_DONE) {
+        int values = 1;
+        written = 3 * c.size * c.size;
+        for (size_t at = 0; at < written; at++) {
+            size_t k = at / (c.size * c.size), i = at / c.size % c.size, j = at % c.size;
+            size_t row = place_of(c.board.r_1, c.board.r0, c.board.pixelr, c.x, c.size, i);
+            size_t column = place_of(c.board.c_1, c.board.c0, c.board.pixelc, c.y, c.size, j);
+            float value = planes[(k * c.board.height + row) * c.board.width + column];
+            values &= bits_of(out.at[at]) == bits_of(value);
+        }
+        check(values, where, "values");
+    }
+    check(kept(out, written), where, "entries that keep their content");
+    check(memcmp(planes, before, c.planes_len * sizeof *planes) == 0, where, "planes unchanged");
+
+    free(planes);
+    free(before);
+    free(out.whole);
+}
+
+/* A call that is done: cell (1, 2) of a board with pitch 10.0 and 9.25 on a screen of 64 by 60. */
+static call fitting(void)
+{
+    call c = {
+        .board = {.height = 64, .width = 60, .r_1 = 5, .c_1 = 7, .r0 = 3, .c0 = 2,
+                  .r = 4, .c = 3, .pixelr = 10.0f, .pixelc = 9.25f},
+        .planes_len = 3 * 64 * 60, .x = 1, .y = 2, .size = 5, .out_len = 3 * 25,
+        .bad = NOWHERE,
+    };
+    return c;
+}
+
+/* 01, Ruler cases: corner 0, offset 3, pitch 10.0, x = 0, size 2: rows 5 and 10. */
+static void worked_case(void)
+{
+    folgutan_board board = {.height = 12, .width = 12, .r0 = 3, .c0 = 3,
+                            .pixelr = 10.0f, .pixelc = 10.0f};
+    static float planes[3 * 144], out[12];
+    for (size_t at = 0; at < COUNT(planes); at++)
+        planes[at] = plane_value(at);
+    uint32_t answer = folgutan_sample(board, planes, COUNT(planes), 0, 0, 2, out, COUNT(out));
+    check(answer == FOLGUTAN_DONE, "sample, worked case", "answer");
+    static const size_t at[] = {5, 10};
+    int values = 1;
+    for (size_t k = 0; k < 3; k++)
+        for (size_t i = 0; i < 2; i++)
+            for (size_t j = 0; j < 2; j++)
+                values &= bits_of(out[4 * k + 2 * i + j])
+                          == bits_of(planes[144 * k + 12 * at[i] + at[j]]);
+    check(values, "sample, worked case", "values");
+}
+
+static void sample_sizes(void)
+{
+    static const size_t sizes[] = {0, 1, 2, 3, 24, 63, 64};
+    for (size_t at = 0; at < COUNT(sizes); at++) {
+        call c = fitting();
+        c.size = sizes[at];
+        c.out_len = 3 * c.size * c.size;
+        sample_case("size", c, FOLGUTAN_DONE);
+        c.out_len += 7;
+        sample_case("size", c, FOLGUTAN_DONE);
+        c.planes_len += 7;
+        sample_case("size", c, FOLGUTAN_DONE);
+        c.bad = c.planes_len - 1;
+        c.bits = 0x7FC00000;
+        sample_case("bad value further on", c, FOLGUTAN_DONE);
+        c = fitting();
+        c.size = sizes[at];
+        c.out_len = 3 * c.size * c.size;
+        if (c.size == 0)
+            continue;
+        c.out_len -= 1;
+        sample_case("output one short", c, FOLGUTAN_SHORT_SLICE);
+        c.out_len = 0;
+        sample_case("no output", c, FOLGUTAN_SHORT_SLICE);
+    }
+    static const size_t above[] = {65, 66, 4096, (size_t)1 << 32, (size_t)1 << 63, SIZE_MAX};
+    for (size_t at = 0; at < COUNT(above); at++) {
+        call c = fitting();
+        c.size = above[at];
+        c.out_len = 3 * 66 * 66;
+        sample_case("size above 64", c, FOLGUTAN_BAD_NUMBER);
+        c.out_len = 0;
+        sample_case("size above 64, no output", c, FOLGUTAN_BAD_NUMBER);
+    }
+}
+
+static void sample_sides(void)
+{
+    static const size_t fit[][2] = {{4, 4}, {5, 4}, {4, 5}, {12, 12}, {4, 4096}, {4096, 4},
+                                    {12, 4096}};
+    for (size_t at = 0; at < COUNT(fit); at++) {
+        call c = fitting();
+        c.board = (folgutan_board){.height = fit[at][0], .width = fit[at][1],
+                                   .pixelr = 8.0f, .pixelc = 8.0f};
+        c.planes_len = 3 * c.board.height * c.board.width;
+        c.x = c.y = 0;
+        c.size = 1; /* row and column 4 */
+        int inside = c.board.height > 4 && c.board.width > 4;
+        sample_case("sides", c, inside ? FOLGUTAN_DONE : FOLGUTAN_OUTSIDE);
+        c.size = 0;
+        sample_case("sides", c, FOLGUTAN_DONE);
+        c.planes_len--;
+        sample_case("planes one short", c, FOLGUTAN_SHORT_SLICE);
+        c.planes_len = 0;
+        sample_case("no planes", c, FOLGUTAN_SHORT_SLICE);
+    }
+    static const size_t bad[] = {0, 1, 3, 4097, (size_t)1 << 32, (size_t)1 << 63, SIZE_MAX};
+    for (size_t at = 0; at < COUNT(bad); at++)
+        for (size_t turn = 0; turn < 3; turn++) {
+            call c = fitting();
+            if (turn != 0)
+                c.board.height = bad[at];
+            if (turn != 1)
+                c.board.width = bad[at];
+            sample_case("bad side", c, FOLGUTAN_BAD_SIDE);
+            c.planes_len = 0;
+            c.size = 65;
+            c.board.pixelr = float_of(0x7FC00000);
+            sample_case("bad side and all else", c, FOLGUTAN_BAD_SIDE);
+        }
+    /* long enough for the sides */
+    call c = fitting();
+    c.board.height = 3;
+    sample_case("height 3", c, FOLGUTAN_BAD_SIDE);
+    c.board.height = 4097;
+    c.board.width = 4;
+    c.planes_len = 3 * 4097 * 4;
+    sample_case("height 4097", c, FOLGUTAN_BAD_SIDE);
+}
+
+static void sample_values(void)
+{
+    static const uint32_t fit[] = {0x00000000, 0x00000001, 0x3F7FFFFF, 0x3F800000};
+    static const uint32_t unfit[] = {0x3F800001, 0x80000000, 0xBF800000, 0x7F800000, 0xFF800000,
+                                     0x7FC00000, 0xFFC00000, 0x7FA00001};
+    size_t last = 3 * 64 * 60 - 1;
+    size_t places[] = {0, last / 2, last};
+    for (size_t p = 0; p < COUNT(places); p++) {
+        call c = fitting();
+        c.bad = places[p];
+        for (size_t v = 0; v < COUNT(fit); v++) {
+            c.bits = fit[v];
+            sample_case("fit value", c, FOLGUTAN_DONE);
+        }
+        for (size_t v = 0; v < COUNT(unfit); v++) {
+            c = fitting();
+            c.bad = places[p];
+            c.bits = unfit[v];
+            sample_case("unfit value", c, FOLGUTAN_BAD_VALUE);
+            c.size = 0;
+            sample_case("unfit value, size 0", c, FOLGUTAN_BAD_VALUE);
+            /* pitch, numbers and output are looked at later, the planes' length before */
+            c.size = 65;
+            c.out_len = 0;
+            c.board.pixelc = 0.0f;
+            sample_case("unfit value and pitch", c, FOLGUTAN_BAD_VALUE);
+            c.planes_len = last;
+            sample_case("unfit value, planes short", c, FOLGUTAN_SHORT_SLICE);
+        }
+    }
+}
+
+static void sample_pitches(void)
+{
+    static const struct {
+        uint32_t bits;
+        uint32_t answer;
+    } pitches[] = {
+        {0x41000000, 0},  {0x41000001, 0},  {0x40FFFFFF, 10}, {0x43480000, 12}, {0x4347FFFF, 12},
+        {0x43480001, 10}, {0x00000000, 10}, {0x80000000, 10}, {0xC1200000, 10}, {0x3F800000, 10},
+        {0x7F7FFFFF, 10}, {0x7F800000, 10}, {0xFF800000, 10}, {0x7FC00000, 10}, {0xFFC00000, 10},
+        {0x7F800001, 10},
+    };
+    for (size_t at = 0; at < COUNT(pitches); at++)
+        for (size_t turn = 0; turn < 3; turn++) {
+            call c = fitting();
+            if (turn != 0)
+                c.board.pixelr = float_of(pitches[at].bits);
+            if (turn != 1)
+                c.board.pixelc = float_of(pitches[at].bits);
+            sample_case("pitch", c, pitches[at].answer);
+            /* later checks with it */
+            c.x = 4097;
+            sample_case("pitch and number", c,
+                        pitches[at].answer == 10 ? FOLGUTAN_BAD_PITCH : FOLGUTAN_BAD_NUMBER);
+            c.x = 1;
+            c.size = 0;
+            sample_case("pitch, size 0", c,
+                        pitches[at].answer == 10 ? FOLGUTAN_BAD_PITCH : FOLGUTAN_DONE);
+        }
+    /* 200.0 inside */
+    call c = fitting();
+    c.board.pixelr = 200.0f;
+    c.x = 0;
+    c.size = 64;
+    c.out_len = 3 * 64 * 64;
+    c.board.height = 210;
+    c.planes_len = 3 * 210 * 60;
+    sample_case("pitch 200.0", c, FOLGUTAN_DONE);
+}
+
+/* Each number at its limit and above it; at the limit the place is outside, or size 0 is done. */
+static void sample_numbers(void)
+{
+    static const size_t above[] = {4097, (size_t)1 << 24, (size_t)1 << 32, (size_t)1 << 63,
+                                   SIZE_MAX};
+    for (size_t field = 0; field < 6; field++)
+        for (size_t at = 0; at <= COUNT(above); at++) {
+            size_t value = at == 0 ? 4096 : above[at - 1];
+            call c = fitting();
+            size_t *fields[] = {&c.x, &c.y, &c.board.r_1, &c.board.c_1, &c.board.r0, &c.board.c0};
+            *fields[field] = value;
+            sample_case("number", c, at == 0 ? FOLGUTAN_OUTSIDE : FOLGUTAN_BAD_NUMBER);
+            c.out_len--;
+            sample_case("number, output short", c,
+                        at == 0 ? FOLGUTAN_SHORT_SLICE : FOLGUTAN_BAD_NUMBER);
+            c.size = 0;
+            sample_case("number, size 0", c, at == 0 ? FOLGUTAN_DONE : FOLGUTAN_BAD_NUMBER);
+        }
+    /* r and c are not looked at */
+    call c = fitting();
+    c.board.r = SIZE_MAX;
+    c.board.c = 0;
+    sample_case("rows and columns", c, FOLGUTAN_DONE);
+}
+
+/* The last point that is inside, and the first outside, in both directions. */
+static void sample_outside(void)
+{
+    for (size_t turn = 0; turn < 2; turn++) {
+        call c = fitting();
+        c.board = (folgutan_board){.height = 21, .width = 21, .pixelr = 10.0f, .pixelc = 10.0f};
+        c.planes_len = 3 * 21 * 21;
+        c.x = c.y = 0;
+        c.size = 1; /* 5, 15 and 25 */
+        c.out_len = 3;
+        size_t *cell = turn == 0 ? &c.x : &c.y, *offset = turn == 0 ? &c.board.r0 : &c.board.c0;
+        *cell = 1;
+        *offset = 5;
+        sample_case("last inside", c, FOLGUTAN_DONE);
+        *offset = 6;
+        sample_case("first outside", c, FOLGUTAN_OUTSIDE);
+        c.out_len = 2;
+        sample_case("first outside, output short", c, FOLGUTAN_SHORT_SLICE);
+        c.out_len = 12;
+        c.size = 2; /* 12.5 and 17.5 */
+        *offset = 3;
+        sample_case("last inside, size 2", c, FOLGUTAN_DONE);
+        *offset = 4;
+        sample_case("one of two outside", c, FOLGUTAN_OUTSIDE);
+    }
+}
+
+void test_sample(void)
+{
+    worked_case();
+    sample_sizes();
+    sample_sides();
+    sample_values();
+    sample_pitches();
+    sample_numbers();
+    sample_outside();
+}
