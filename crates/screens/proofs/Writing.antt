@@ -16,13 +16,14 @@ none given = record { counted = refl; len = refl; is = refl }
 more : (b : ℕ) {text given out : List ℕ} {at : ℕ} → Written text given at out → at < length out → Written (text ++ (b ∷ [])) given (at + 1) (set out at b)
 more b {text} {given} {out} {at} w l =
     let inside : at < length given = omega (arith, w .len) in
+    let stored : set (text ++ drop at given) at b ≡ text ++ (b ∷ drop (suc at) given) =
+        rw (drop-cons given at 0 inside) (set-at text (getD given at 0) (drop (suc at) given) b at (sym (w .counted))) in
+    let joined : text ++ (b ∷ drop (suc at) given) ≡ (text ++ (b ∷ [])) ++ drop (at + 1) given =
+        rw add-one (sym (append-snoc text b (drop (suc at) given))) in
     record {
       counted = simp length-append (omega (arith, w .counted));
       len = length-set out at b ∙ w .len;
-      is =
-          ap (λ (s : List ℕ). set s at b) (w .is)
-          ∙ rw (drop-cons given at 0 inside) (set-at text (getD given at 0) (drop (suc at) given) b at (sym (w .counted)))
-          ∙ rw add-one (sym (append-snoc text b (drop (suc at) given)));
+      is = ap (λ (s : List ℕ). set s at b) (w .is) ∙ stored ∙ joined;
     }
 
 pub adds-byte : (b at : ℕ) (out : List ℕ) → at < length out → Adds (b ∷ []) at out (at + 1) (set out at b)
@@ -56,3 +57,8 @@ pub adds-number : (ns : List ℕ) (k : ℕ) {before between after : List ℕ} {a
     → Adds (spaced (take (k + 1) ns)) at before next after
 adds-number ns k l f g =
     rw (add-one, take-suc ns k 0 l, spaced-append (take k ns) (getD ns k 0 ∷ []), append-nil (decimal (getD ns k 0) ++ (32 ∷ []))) (adds-both f g)
+
+-- three texts, one after the other, from the front on
+pub written-three : {xs ys zs given a b out : List ℕ} {m n count : ℕ}
+    → Adds xs 0 given m a → Adds ys m a n b → Adds zs n b count out → Written (xs ++ (ys ++ zs)) given count out
+written-three {given = given} f g h = adds-both f (adds-both g h) .goes-on [] given (none given)

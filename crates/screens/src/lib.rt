@@ -182,20 +182,28 @@ fn put_bytes(out: &mut [u8], at: usize, bytes: &[u8], n: usize) -> usize
     next
 }
 
+// The first k of twenty digits.
+fn put_digits(out: &mut [u8], at: usize, digits: &[u8; 20], k: usize) -> usize
+    requires { ⌜ (k ≤ length (now digits)) × (at + 20 ≤ length (now out)) ⌝ }
+    ensures { λ r. ⌜ Adds (take k (now (digits .entry))) at (now (out .entry)) r (now (out .exit)) × (k ≤ 20) ⌝ }
+{
+    put_bytes(out, at, digits, k)
+}
+
 // A number and the mark behind it.
 fn put_number(out: &mut [u8], at: usize, n: u64, mark: u8) -> usize
     requires { ⌜ at + 21 ≤ length (now out) ⌝ }
-    ensures { λ r. ⌜ Adds (decimal n ++ (mark ∷ [])) at (now (out .entry)) r (now (out .exit)) × (r ≤ at + 21) ⌝ }
+    ensures { λ r. ⌜ Adds (decimal n ++ (mark ∷ [])) at (now (out .entry)) r (now (out .exit)) ⌝ }
 {
-    let mut text: [u8; 20] = [0; 20];
-    let k = io::decimal(n, &mut text);
-    let next = put_bytes(out, at, &text, k);
+    let mut digits: [u8; 20] = [0; 20];
+    let k = io::decimal(n, &mut digits);
+    let next = put_digits(out, at, &digits, k);
     put(out, next, mark)
 }
 
 fn put_numbers(out: &mut [u8], at: usize, numbers: &[u64]) -> usize
     requires { ⌜ at + 21 * length (now numbers) ≤ length (now out) ⌝ }
-    ensures { λ r. ⌜ Adds (spaced (now (numbers .entry))) at (now (out .entry)) r (now (out .exit)) × (r ≤ at + 21 * length (now (numbers .entry))) ⌝ }
+    ensures { λ r. ⌜ Adds (spaced (now (numbers .entry))) at (now (out .entry)) r (now (out .exit)) ⌝ }
 {
     let mut next = at;
     for k in 0..numbers.len() {

@@ -1,3 +1,4 @@
+use Rattle.screens.proofs.Writing.{adds-byte}
 use borrow.Author.Needs.{needs}
 use Rattle.screens.proofs.put.Statement.{statement}
 use Rattle.screens.proofs.put.Tie as tie
@@ -18,7 +19,7 @@ same-length c = search needs
 
 -- src/lib.rt:165:1
 returns : tie.Need-returns
-returns c = ?
+returns c = adds-byte _ _ _ (c .pre)
 
 pub put-spec : {M : Type 1} → statement M
 put-spec = tie.close (tie.spec slice-write-out add-result same-length returns)
