@@ -1,0 +1,15 @@
+-- The fourteen worked cases of 01 follow from the rules: both sides of each compute to the same.
+use mathlib.Core.Path.{refl}
+use lib.Ieee.{ofBits, le, add, mul, div, ofInt, toUnsigned}
+use Rattle.rank.specs.Rank.{entry}
+use Rattle.bounds.specs.Scan.{bound}
+use Rattle.strips.specs.Strip.{score}
+use Rattle.lines.specs.Lines.{lineThreshold, smooth, isLine, linesOf, estimate, narrowGap}
+use Rattle.votes.specs.Votes.{winner}
+use Rattle.reading.specs.Reading.{quartersOf, readingOf}
+use Rattle.sample.specs.Sample.{sampledAt}
+use Rattle.cases.specs.Cases.{All, cases}
+
+pub worked : All cases
+unfolding ofBits le add mul div ofInt toUnsigned entry bound score lineThreshold smooth isLine linesOf estimate narrowGap winner quartersOf readingOf sampledAt
+worked = (refl, (refl, (refl, (refl, (refl, (refl, (refl, (refl, (refl, ((refl, refl), ((refl, refl), (refl, (refl, (refl, tt))))))))))))))

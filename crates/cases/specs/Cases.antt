@@ -1,0 +1,100 @@
+-- The fourteen worked cases at the end of 01, by the definitions that the contracts cite. They hold together: proofs/Worked.
+use Prim.Native.Nat.{ℕ, _*_}
+use mathlib.Core.Path.{_≡_}
+use mathlib.Core.Bool.{Bool, true, false, cond, _||_}
+use mathlib.Core.List.{List, [], _∷_}
+use lib.Dec.{eqb}
+use lib.Ieee.{Float, binary32, ofBits}
+use lib.ListN.{length}
+use Rattle.lists.specs.Tab.{tabFrom, tab}
+use Rattle.bounds.specs.declared.Bounds.{Bounds}
+use Rattle.bounds.specs.Bounds.{boundsOf}
+use Rattle.strips.specs.Strip.{at, score}
+use Rattle.lines.specs.Lines.{linesOf}
+use Rattle.reading.specs.declared.Reading.{Reading}
+use Rattle.reading.specs.declared.Reading.the-variants.{Read, Refused}
+use Rattle.reading.specs.Reading.{readingOf}
+use Rattle.sample.specs.Sample.{sampledAt}
+
+-- an edge picture: whether the point in a row and a column is set
+abbrev pub Picture : Type 0
+Picture = ℕ → ℕ → Bool
+
+pub data Case : Type 0 where
+  -- the bounds of a 10 by 10 picture
+  bounded : Picture → Bounds → Case
+  -- the score over so many steps down a strip of this picture, for a target lane
+  scored : Picture → ℕ → ℕ → ℕ → Case
+  -- what a list reads as
+  read : List ℕ → Reading → Case
+  -- the lines of a list, and what it reads as
+  lined : List ℕ → List ℕ → Reading → Case
+  -- the sampled rows of corner, offset, pitch, x and size
+  sampled : ℕ → ℕ → Float → ℕ → ℕ → List ℕ → Case
+
+-- what a case says; a list has the scratch that it asks for
+abbrev pub Holds : Case → Type 0
+Holds (bounded E b) = boundsOf E 10 10 ≡ b
+Holds (scored E steps k s) = score E 0 steps (at 0 k) ≡ s
+Holds (read l r) = readingOf l (4 * length l) ≡ r
+Holds (lined l lines r) = (linesOf l ≡ lines) × (readingOf l (4 * length l) ≡ r)
+Holds (sampled corner offset pitch x size rows) = tab size (sampledAt corner offset pitch x size) ≡ rows
+
+abbrev pub All : List Case → Type 0
+All [] = Unit
+All (c ∷ cs) = Holds c × All cs
+
+abbrev pub blank : Picture
+blank i j = false
+
+abbrev pub full : Picture
+full i j = true
+
+-- only one lane is set
+abbrev pub only : ℕ → Picture
+only lane i j = eqb j lane
+
+abbrev pub bounds : ℕ → ℕ → ℕ → ℕ → Bounds
+bounds r₁ r₂ c₁ c₂ = record { «r_1» = r₁; «r_2» = r₂; «c_1» = c₁; «c_2» = c₂ }
+
+abbrev pub member : ℕ → List ℕ → Bool
+member i [] = false
+member i (p ∷ ps) = eqb i p || member i ps
+
+-- a list of n entries, zero but for tens at these places
+abbrev pub tens : ℕ → List ℕ → List ℕ
+tens n ps = tab n (λ i. cond (member i ps) 10 0)
+
+-- 10.0, 9.0 and 200.0 by their bits
+abbrev pub ten : Float
+ten = ofBits binary32 0x41200000
+
+abbrev pub nine : Float
+nine = ofBits binary32 0x41100000
+
+abbrev pub twoHundred : Float
+twoHundred = ofBits binary32 0x43480000
+
+abbrev pub cases : List Case
+cases =
+    -- blank 10 by 10 E: bounds 5, 5, 5, 5; all set: 0, 9, 0, 9
+    bounded blank (bounds 5 5 5 5)
+    ∷ bounded full (bounds 0 9 0 9)
+    -- strips: 0 steps, 0; 3 steps all unset, 0; 3 steps all set, 3; k = 2, only lane 3 set, 3 steps, 1; 2 steps, 0
+    ∷ scored full 0 2 0
+    ∷ scored blank 3 2 0
+    ∷ scored full 3 2 3
+    ∷ scored (only 3) 3 2 1
+    ∷ scored (only 3) 2 2 0
+    -- lists of 30, zero but for tens at: 3, 13, 23: pitch 10.0, offset 3, count 2, votes 3; 3, 12: 9.0, 3, 1, 2
+    ∷ read (tens 30 (3 ∷ 13 ∷ 23 ∷ [])) (Read ten 3 2 3)
+    ∷ read (tens 30 (3 ∷ 12 ∷ [])) (Read nine 3 1 2)
+    -- 3, 11: lines 3 and 7, refusal 6; none: lines 6 to 22, refusal 6
+    ∷ lined (tens 30 (3 ∷ 11 ∷ [])) (3 ∷ 7 ∷ []) (Refused 6)
+    ∷ lined (tens 30 []) (tabFrom 6 17 (λ i. i)) (Refused 6)
+    -- lists of 300, tens at 3, 208: 200.0, 3, 1, 1; 3, 209: refusal 7
+    ∷ read (tens 300 (3 ∷ 208 ∷ [])) (Read twoHundred 3 1 1)
+    ∷ read (tens 300 (3 ∷ 209 ∷ [])) (Refused 7)
+    -- sampling with corner 0, offset 3, pitch 10.0, x = 0, size 2: rows 5 and 10
+    ∷ sampled 0 3 ten 0 2 (5 ∷ 10 ∷ [])
+    ∷ []

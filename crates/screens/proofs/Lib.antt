@@ -1,0 +1,4 @@
+pub mod Decimal
+pub mod Numbers
+pub mod Prefix
+pub mod Writing
