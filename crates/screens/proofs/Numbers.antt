@@ -14,7 +14,7 @@ use Rattle.screens.specs.declared.Input.{Input}
 use Rattle.screens.specs.declared.Input.the-variants.{Refused}
 use Rattle.screens.specs.Header.{isDigit, digitCount, digitsEnd, fourAtMost, valueAt, sized, numbersAt}
 
-drop-past : (k : ℕ) (l : List ℕ) → length l ≤ k → drop k l ≡ []
+pub drop-past : (k : ℕ) (l : List ℕ) → length l ≤ k → drop k l ≡ []
 drop-past zero [] h = refl
 drop-past zero (x ∷ l) h = absurd (not-suc-le-zero h)
 drop-past (suc k) [] h = refl

@@ -3,8 +3,9 @@
 ghost use mathlib.Core.Path.{_≡_};
 ghost use mathlib.Core.List.{[], _∷_, _++_};
 ghost use Prim.Native.Nat.{_+_, _-_, _*_, _≤_, _<_};
-ghost use lib.ListN.{length, getD, take};
+ghost use lib.ListN.{length, getD, take, drop};
 ghost use Rattle.screens.specs.Header.{begins, isDigit, digitsEnd, fourAtMost, valueAt, shownSide, sized, numbersAt, headerOf};
+ghost use Rattle.screens.specs.Text as Spec;
 ghost use Rattle.screens.specs.Text.{decimal, spaced, textOf, Written, Adds};
 
 // The sides and where the pixels begin, or the number of the refusal.
@@ -160,6 +161,38 @@ pub fn header(bytes: &[u8]) -> Input
         return numbers_at(bytes, 13);
     }
     Input::Refused(11)
+}
+
+// What stands behind the first two lines.
+pub fn pixels<'a>(bytes: &'a [u8], at: usize) -> &'a [u8]
+    ensures { λ r. ⌜ now r ≡ drop at (now (bytes .entry)) ⌝ }
+{
+    if at < bytes.len() {
+        return &bytes[at..];
+    }
+    &bytes[0..0]
+}
+
+// What is printed where loading refused or the first two lines are bad.
+pub fn alone(answer: u32) -> Values
+    ensures { λ r. ⌜ r ≡ Spec.alone answer ⌝ }
+{
+    Values {
+        answer: answer as u64,
+        rows: 0,
+        columns: 0,
+        r_1: 0,
+        c_1: 0,
+        r0: 0,
+        c0: 0,
+        quarterr: 0,
+        quarterc: 0,
+        votesr: 0,
+        votesc: 0,
+        narrowed: 0,
+        height: 0,
+        width: 0,
+    }
 }
 
 fn put(out: &mut [u8], at: usize, b: u8) -> usize
