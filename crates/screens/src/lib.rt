@@ -4,6 +4,7 @@ ghost use mathlib.Core.Path.{_≡_};
 ghost use mathlib.Core.List.{[], _∷_, _++_};
 ghost use Prim.Native.Nat.{_+_, _-_, _*_, _≤_, _<_};
 ghost use lib.ListN.{length, getD, take, drop};
+ghost use Rattle.io.specs.Counts.{Counts};
 ghost use Rattle.screens.specs.Header.{begins, isDigit, digitsEnd, fourAtMost, valueAt, shownSide, sized, numbersAt, headerOf};
 ghost use Rattle.screens.specs.Text as Spec;
 ghost use Rattle.screens.specs.Text.{decimal, spaced, textOf, Written, Adds};
@@ -249,6 +250,7 @@ fn put_numbers(out: &mut [u8], at: usize, numbers: &[u64]) -> usize
 pub fn write_lines(v: Values, out: &mut [u8]) -> usize
     requires { ⌜ 380 ≤ length (now out) ⌝ }
     ensures { λ r. ⌜ Written (textOf v) (now (out .entry)) r (now (out .exit)) ⌝ }
+    ensures { λ r. ⌜ Counts r (now (out .exit)) ⌝ }
 {
     let names = b"answer rows columns r1 c1 r0 c0 quarterr quarterc votesr votesc narrowed height width\n";
     let at = put_bytes(out, 0, names, 86);

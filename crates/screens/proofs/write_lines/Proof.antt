@@ -1,4 +1,4 @@
-use Rattle.screens.proofs.Writing.{written-three}
+use Rattle.screens.proofs.Writing.{written-three, written-counts}
 use Rattle.screens.proofs.Decimal.{spaced-few}
 use Rattle.screens.specs.Text.{leading}
 use native.Mathlib.Omega.{arith}
@@ -33,7 +33,7 @@ same-length c = search needs
 
 -- src/lib.rt:208:1
 returns : tie.Need-returns
-returns c = written-three (c .before .before .before .before .before .before .before .before .before .before .before .put-bytes .ensures) (c .before .before .before .before .before .before .put-numbers .ensures) (c .before .before .put-number .ensures)
+returns c = let w = written-three (c .before .before .before .before .before .before .before .before .before .before .before .put-bytes .ensures) (c .before .before .before .before .before .before .put-numbers .ensures) (c .before .before .put-number .ensures) in (w, written-counts w)
 
 pub write-lines-spec : {M : Type 1} → statement M
 write-lines-spec =
