@@ -44,7 +44,15 @@ fn values_of(height: usize, width: usize, pixels: &[u8]) -> Values {
     let mut floats: [f32; 4096] = [0.0; 4096];
     let mut bytes: [u8; 4096] = [0; 4096];
     let mut words: [u32; 512] = [0; 512];
-    located(locate::get_pos_pixel(b, &mut planes, &mut edges, &mut scores, &mut floats, &mut bytes, &mut words))
+    located(locate::get_pos_pixel(
+        b,
+        &mut planes,
+        &mut edges,
+        &mut scores,
+        &mut floats,
+        &mut bytes,
+        &mut words,
+    ))
 }
 
 fn answer_to(bytes: &[u8]) -> Values {

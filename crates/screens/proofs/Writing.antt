@@ -18,9 +18,9 @@ more : (b : ℕ) {text given out : List ℕ} {at : ℕ} → Written text given a
 more b {text} {given} {out} {at} w l =
     let inside : at < length given = omega (arith, w .len) in
     let stored : set (text ++ drop at given) at b ≡ text ++ (b ∷ drop (suc at) given) =
-        rw (drop-cons given at 0 inside) (set-at text (getD given at 0) (drop (suc at) given) b at (sym (w .counted))) in
+    rw (drop-cons given at 0 inside) (set-at text (getD given at 0) (drop (suc at) given) b at (sym (w .counted))) in
     let joined : text ++ (b ∷ drop (suc at) given) ≡ (text ++ (b ∷ [])) ++ drop (at + 1) given =
-        rw add-one (sym (append-snoc text b (drop (suc at) given))) in
+    rw add-one (sym (append-snoc text b (drop (suc at) given))) in
     record {
       counted = simp length-append (omega (arith, w .counted));
       len = length-set out at b ∙ w .len;

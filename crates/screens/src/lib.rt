@@ -11,7 +11,11 @@ ghost use Rattle.screens.specs.Text.{decimal, spaced, textOf, Written, A
 
 // The sides and where the pixels begin, or the number of the refusal.
 pub enum Input {
-    Sides { height: usize, width: usize, at: usize },
+    Sides {
+        height: usize,
+        width: usize,
+        at: usize,
+    },
     Refused(u32),
 }
 
@@ -148,7 +152,11 @@ fn numbers_at(bytes: &[u8], from: usize) -> Input
         let second = space + 1;
         let feed = digits_end(bytes, second);
         if four_at_most(bytes, second, feed, 10) {
-            return sized_of(number(bytes, from, space), number(bytes, second, feed), feed + 1);
+            return sized_of(
+                number(bytes, from, space),
+                number(bytes, second, feed),
+                feed + 1,
+            );
         }
     }
     Input::Refused(11)
@@ -252,10 +260,23 @@ pub fn write_lines(v: Values, out: &mut [u8]) -> usize
     ensures { λ r. ⌜ Written (textOf v) (now (out .entry)) r (now (out .exit)) ⌝ }
     ensures { λ r. ⌜ Counts r (now (out .exit)) ⌝ }
 {
-    let names = b"answer rows columns r1 c1 r0 c0 quarterr quarterc votesr votesc narrowed height width\n";
+    let names =
+        b"answer rows columns r1 c1 r0 c0 quarterr quarterc votesr votesc narrowed height width\n";
     let at = put_bytes(out, 0, names, 86);
     let leading = [
-        v.answer, v.rows, v.columns, v.r_1, v.c_1, v.r0, v.c0, v.quarterr, v.quarterc, v.votesr, v.votesc, v.narrowed, v.height,
+        v.answer,
+        v.rows,
+        v.columns,
+        v.r_1,
+        v.c_1,
+        v.r0,
+        v.c0,
+        v.quarterr,
+        v.quarterc,
+        v.votesr,
+        v.votesc,
+        v.narrowed,
+        v.height,
     ];
     let next = put_numbers(out, at, &leading);
     put_number(out, next, v.width, 10)

@@ -1,3 +1,4 @@
+-- `screens::pixels` meets its contract.
 use Prim.Native.Nat.{_-_}
 use Rattle.screens.proofs.Numbers.{drop-past}
 use lib.Seq.{take-all}
@@ -8,40 +9,30 @@ use mathlib.Core.Path.{sym}
 use borrow.Author.Needs.{needs}
 use Rattle.screens.proofs.pixels.Statement.{statement}
 use Rattle.screens.proofs.pixels.Tie as tie
-use Rattle.screens.proofs.pixels.Reads as reads
-use Rattle.screens.proofs.pixels.Lts as lts
 
--- src/lib.rt:171:16
 sub-result : tie.Need-sub-result
 sub-result c = search needs
 
--- src/lib.rt:171:16
 part-result-start : tie.Need-part-result-start
 part-result-start c = search needs
 
--- src/lib.rt:171:16
 part-result-end : tie.Need-part-result-end
 part-result-end c = search needs
 
--- src/lib.rt:171:9
 returns : tie.Need-returns
 returns c = let s = now (c .before .before .args .bytes) in
     let at = c .before .before .args .at in
     take-all (length s - at) (drop at s) (omega (arith, length-drop at s))
 
--- src/lib.rt:173:5
 sub-result-2 : tie.Need-sub-result-2
 sub-result-2 c = search needs
 
--- src/lib.rt:173:5
 part-result-start-2 : tie.Need-part-result-start-2
 part-result-start-2 c = search needs
 
--- src/lib.rt:173:5
 part-result-end-2 : tie.Need-part-result-end-2
 part-result-end-2 c = search needs
 
--- src/lib.rt:167:1
 returns-2 : tie.Need-returns-2
 returns-2 c = sym (drop-past (c .before .before .args .at) (now (c .before .before .args .bytes)) (c .before .if1 .left))
 
