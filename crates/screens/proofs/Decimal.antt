@@ -1,6 +1,6 @@
 -- The digits that `io::decimal` writes are those of the definition.
 use Prim.Native.Nat.{ℕ, zero, suc, _+_, _-_, _*_, _/_, _%_, _^_, _<_, _≤_}
-use mathlib.Core.Path.{_≡_, refl, sym, ap, _∙_}
+use mathlib.Core.Path.{_≡_}
 use mathlib.Core.Bool.{Bool, true, false, cond}
 use mathlib.Core.List.{List, [], _∷_, _++_}
 use native.Mathlib.Nat.{not-suc-le-zero, le-of-suc-le-suc, le-refl, mod-lt, pow-suc, one-le-pow, le-div-iff-mul-le, div-lt-iff-lt-mul}
@@ -22,8 +22,8 @@ digits-are (suc (suc k)) (suc most) n some few below above =
     let two : suc k - 1 ≡ k = omega arith in
     let ten : 10 ≤ n = omega (arith, one-le-pow k 10 (omega arith)) in
     let rest : digits 10 (suc k) (n / 10) ≡ digitsOf most (n / 10) =
-        digits-are (suc k) most (n / 10) (omega arith) (le-of-suc-le-suc few)
-            ((div-lt-iff-lt-mul {k = 10} (omega arith)) .1 high) (λ _. rw two ((le-div-iff-mul-le {k = 10} (omega arith)) .1 low)) in
+    digits-are (suc k) most (n / 10) (omega arith) (le-of-suc-le-suc few)
+    ((div-lt-iff-lt-mul {k = 10} (omega arith)) .1 high) (λ _. rw two ((le-div-iff-mul-le {k = 10} (omega arith)) .1 low)) in
     rw (le-ltb n 10 ten, lt-ltb (n % 10) 10 (mod-lt n (omega arith)), ← rest)
 
 pub decimal-is : (n k : ℕ) → Fewest 10 1 n k → k ≤ 20 → digits 10 k n ≡ decimal n

@@ -1,6 +1,6 @@
 -- Numbers in decimal: where their digits end, and what they are worth.
 use Prim.Native.Nat.{ℕ, zero, suc, _+_, _-_, _*_, _<_, _≤_}
-use mathlib.Core.Path.{_≡_, refl, sym, ap, _∙_}
+use mathlib.Core.Path.{_≡_, refl}
 use mathlib.Core.Bool.{Bool, true, false, _&&_}
 use mathlib.Core.List.{List, [], _∷_}
 use native.Mathlib.Nat.{not-suc-le-zero, le-of-suc-le-suc}
@@ -9,12 +9,11 @@ use native.Mathlib.Omega.{arith}
 use lib.ListN.{length, getD, drop}
 use lib.Seq.{drop-cons}
 use borrow.Author.Tests.{ltb-true, leb-true}
-use lib.Dec.{eqb, leb, ltb}
-use Rattle.screens.specs.declared.Input.{Input}
+use lib.Dec.{leb, ltb}
 use Rattle.screens.specs.declared.Input.the-variants.{Refused}
 use Rattle.screens.specs.Header.{isDigit, digitCount, digitsEnd, fourAtMost, valueAt, sized, numbersAt}
 
-drop-past : (k : ℕ) (l : List ℕ) → length l ≤ k → drop k l ≡ []
+pub drop-past : (k : ℕ) (l : List ℕ) → length l ≤ k → drop k l ≡ []
 drop-past zero [] h = refl
 drop-past zero (x ∷ l) h = absurd (not-suc-le-zero h)
 drop-past (suc k) [] h = refl

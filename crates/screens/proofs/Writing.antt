@@ -5,7 +5,8 @@ use mathlib.Core.List.{List, [], _∷_, _++_, append-assoc, append-nil}
 use native.Mathlib.Numerals.{add-one}
 use native.Mathlib.Omega.{arith}
 use lib.ListN.{length, getD, set, take, drop, length-set, length-append}
-use lib.Seq.{append-snoc, drop-cons, set-at, take-suc}
+use lib.Seq.{append-snoc, drop-cons, length-take-le, set-at, take-suc}
+use Rattle.io.specs.Counts.{Counts}
 use Rattle.screens.specs.Text.{Written, Adds, decimal, spaced}
 
 -- nothing is written yet
@@ -17,9 +18,9 @@ more : (b : ℕ) {text given out : List ℕ} {at : ℕ} → Written text given a
 more b {text} {given} {out} {at} w l =
     let inside : at < length given = omega (arith, w .len) in
     let stored : set (text ++ drop at given) at b ≡ text ++ (b ∷ drop (suc at) given) =
-        rw (drop-cons given at 0 inside) (set-at text (getD given at 0) (drop (suc at) given) b at (sym (w .counted))) in
+    rw (drop-cons given at 0 inside) (set-at text (getD given at 0) (drop (suc at) given) b at (sym (w .counted))) in
     let joined : text ++ (b ∷ drop (suc at) given) ≡ (text ++ (b ∷ [])) ++ drop (at + 1) given =
-        rw add-one (sym (append-snoc text b (drop (suc at) given))) in
+    rw add-one (sym (append-snoc text b (drop (suc at) given))) in
     record {
       counted = simp length-append (omega (arith, w .counted));
       len = length-set out at b ∙ w .len;
@@ -62,3 +63,9 @@ adds-number ns k l f g =
 pub written-three : {xs ys zs given a b out : List ℕ} {m n count : ℕ}
     → Adds xs 0 given m a → Adds ys m a n b → Adds zs n b count out → Written (xs ++ (ys ++ zs)) given count out
 written-three {given = given} f g h = adds-both f (adds-both g h) .goes-on [] given (none given)
+
+-- what was written lies within the list
+pub written-counts : {text given out : List ℕ} {count : ℕ} → Written text given count out → Counts count out
+written-counts {text} {given} {out} {count} w =
+    let inside : count ≤ length out = omega (arith, w .counted, length-append text (drop count given), ap length (w .is)) in
+    (inside, sym (length-take-le count out inside))

@@ -8,6 +8,26 @@ use lib.ListN.{length, drop}
 use Rattle.screens.specs.declared.Values.{Values}
 use Rattle.screens.specs.Header.{sidesLine}
 
+-- every value but the answer is 0
+abbrev pub alone : ℕ → Values
+alone n =
+    record {
+      answer = n;
+      rows = 0;
+      columns = 0;
+      «r_1» = 0;
+      «c_1» = 0;
+      r0 = 0;
+      c0 = 0;
+      quarterr = 0;
+      quarterc = 0;
+      votesr = 0;
+      votesc = 0;
+      narrowed = 0;
+      height = 0;
+      width = 0;
+    }
+
 -- "answer rows columns r1 c1 r0 c0 quarterr quarterc votesr votesc narrowed height width" and a line feed
 abbrev pub namesLine : List ℕ
 namesLine =

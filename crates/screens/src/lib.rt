@@ -3,13 +3,19 @@
 ghost use mathlib.Core.Path.{_≡_};
 ghost use mathlib.Core.List.{[], _∷_, _++_};
 ghost use Prim.Native.Nat.{_+_, _-_, _*_, _≤_, _<_};
-ghost use lib.ListN.{length, getD, take};
+ghost use lib.ListN.{length, getD, take, drop};
+ghost use Rattle.io.specs.Counts.{Counts};
 ghost use Rattle.screens.specs.Header.{begins, isDigit, digitsEnd, fourAtMost, valueAt, shownSide, sized, numbersAt, headerOf};
+ghost use Rattle.screens.specs.Text as Spec;
 ghost use Rattle.screens.specs.Text.{decimal, spaced, textOf, Written, Adds};
 
 // The sides and where the pixels begin, or the number of the refusal.
 pub enum Input {
-    Sides { height: usize, width: usize, at: usize },
+    Sides {
+        height: usize,
+        width: usize,
+        at: usize,
+    },
     Refused(u32),
 }
 
@@ -146,7 +152,11 @@ fn numbers_at(bytes: &[u8], from: usize) -> Input
         let second = space + 1;
         let feed = digits_end(bytes, second);
         if four_at_most(bytes, second, feed, 10) {
-            return sized_of(number(bytes, from, space), number(bytes, second, feed), feed + 1);
+            return sized_of(
+                number(bytes, from, space),
+                number(bytes, second, feed),
+                feed + 1,
+            );
         }
     }
     Input::Refused(11)
@@ -160,6 +170,38 @@ pub fn header(bytes: &[u8]) -> Input
         return numbers_at(bytes, 13);
     }
     Input::Refused(11)
+}
+
+// What stands behind the first two lines.
+pub fn pixels<'a>(bytes: &'a [u8], at: usize) -> &'a [u8]
+    ensures { λ r. ⌜ now r ≡ drop at (now (bytes .entry)) ⌝ }
+{
+    if at < bytes.len() {
+        return &bytes[at..];
+    }
+    &bytes[0..0]
+}
+
+// What is printed where loading refused or the first two lines are bad.
+pub fn alone(answer: u32) -> Values
+    ensures { λ r. ⌜ r ≡ Spec.alone answer ⌝ }
+{
+    Values {
+        answer: answer as u64,
+        rows: 0,
+        columns: 0,
+        r_1: 0,
+        c_1: 0,
+        r0: 0,
+        c0: 0,
+        quarterr: 0,
+        quarterc: 0,
+        votesr: 0,
+        votesc: 0,
+        narrowed: 0,
+        height: 0,
+        width: 0,
+    }
 }
 
 fn put(out: &mut [u8], at: usize, b: u8) -> usize
@@ -216,11 +258,25 @@ fn put_numbers(out: &mut [u8], at: usize, numbers: &[u64]) -> usize
 pub fn write_lines(v: Values, out: &mut [u8]) -> usize
     requires { ⌜ 380 ≤ length (now out) ⌝ }
     ensures { λ r. ⌜ Written (textOf v) (now (out .entry)) r (now (out .exit)) ⌝ }
+    ensures { λ r. ⌜ Counts r (now (out .exit)) ⌝ }
 {
-    let names = b"answer rows columns r1 c1 r0 c0 quarterr quarterc votesr votesc narrowed height width\n";
+    let names =
+        b"answer rows columns r1 c1 r0 c0 quarterr quarterc votesr votesc narrowed height width\n";
     let at = put_bytes(out, 0, names, 86);
     let leading = [
-        v.answer, v.rows, v.columns, v.r_1, v.c_1, v.r0, v.c0, v.quarterr, v.quarterc, v.votesr, v.votesc, v.narrowed, v.height,
+        v.answer,
+        v.rows,
+        v.columns,
+        v.r_1,
+        v.c_1,
+        v.r0,
+        v.c0,
+        v.quarterr,
+        v.quarterc,
+        v.votesr,
+        v.votesc,
+        v.narrowed,
+        v.height,
     ];
     let next = put_numbers(out, at, &leading);
     put_number(out, next, v.width, 10)

@@ -1,21 +1,17 @@
+-- `screens::byte_at` meets its contract: past the end a list has its default.
 use lib.ListN.{List·getD-eq-default}
 use denote.Ref.{now}
 use mathlib.Core.Path.{sym}
 use borrow.Author.Needs.{needs}
 use Rattle.screens.proofs.byte_at.Statement.{statement}
 use Rattle.screens.proofs.byte_at.Tie as tie
-use Rattle.screens.proofs.byte_at.Reads as reads
-use Rattle.screens.proofs.byte_at.Lts as lts
 
--- src/lib.rt:76:16
 shared-slice-read-result : tie.Need-shared-slice-read-result
 shared-slice-read-result c = search needs
 
--- src/lib.rt:76:9
 returns : tie.Need-returns
 returns c = search needs
 
--- src/lib.rt:72:1
 returns-2 : tie.Need-returns-2
 returns-2 c = sym (List·getD-eq-default (now (c .before .args .bytes)) 0 (c .if1 .left))
 

@@ -1,3 +1,5 @@
+-- `screens::number` meets its contract. The invariant: the value so far with the digits that are left is the whole number, and it is small.
+-- What is left of the digits falls.
 use denote.Ref.{now}
 use native.Mathlib.Omega.{arith}
 use Rattle.screens.proofs.Numbers.{worth, worth-small, worth-more, value-more, value-all}
@@ -7,10 +9,6 @@ use mathlib.Core.Path.{_≡_, refl, sym, ap, _∙_}
 use borrow.Author.Needs.{needs}
 use Rattle.screens.proofs.number.Statement.{statement}
 use Rattle.screens.proofs.number.Tie as tie
-use Rattle.screens.proofs.number.Reads as reads
-use Rattle.screens.proofs.number.Lts as lts
-use Rattle.screens.proofs.byte_at.Reads as byte-at-reads
-use Rattle.screens.proofs.digit_of.Reads as digit-of-reads
 
 abbrev Inv-loop : tie.InvT-loop
 Inv-loop bytes from end value₀ k₀ value k = (from ≤ k) × (k ≤ end) × (value ≤ worth (k - from)) × (valueAt bytes k (end - k) value ≡ valueAt bytes from (end - from) 0)
@@ -18,39 +16,30 @@ Inv-loop bytes from end value₀ k₀ value k = (from ≤ k) × (k ≤ end) × (
 abbrev μ-loop : tie.MeasureT-loop
 μ-loop bytes from end value₀ k₀ value k = end - k
 
--- src/lib.rt:110:5
 loop-holds : tie.Need-loop-holds Inv-loop μ-loop
 loop-holds c = (omega arith, c .before .pre .0, zero-le, refl)
 
--- src/lib.rt:111:17
 mul-value : tie.Need-mul-value Inv-loop μ-loop
 mul-value c = omega (arith, worth-small (c .before .loop .k - c .before .before .before .args .from) (omega arith))
 
--- src/lib.rt:111:39
 byte-at-requires : tie.Need-byte-at-requires Inv-loop μ-loop
 byte-at-requires c κs = search needs
 
--- src/lib.rt:111:30
 digit-of-requires : tie.Need-digit-of-requires Inv-loop μ-loop
 digit-of-requires c κs = search needs
 
--- src/lib.rt:111:17
 add-value : tie.Need-add-value Inv-loop μ-loop
 add-value c = omega (arith, worth-small (c .before .before .before .loop .k - c .before .before .before .before .before .args .from) (omega arith))
 
--- src/lib.rt:110:9
 add-k : tie.Need-add-k Inv-loop μ-loop
 add-k c = search needs
 
--- src/lib.rt:110:5
 loop-less : tie.Need-loop-less Inv-loop μ-loop
 loop-less c = search needs
 
--- src/lib.rt:110:5
 loop-again : tie.Need-loop-again Inv-loop μ-loop
 loop-again c = (omega arith, omega arith, worth-more (c .before .before .before .before .before .args .from) (c .before .before .before .loop .k) (c .before .before .before .loop .value) _ (c .before .before .before .loop .inv .0) (c .before .before .before .loop .inv .2) (c .digit-of .ensures .1), value-more (now (c .before .before .before .before .before .args .bytes)) (c .before .before .before .loop .k) (c .before .before .before .before .before .args .end) (c .before .before .before .loop .value) _ (c .before .before .loop-test .taken) (c .digit-of .ensures .0 ∙ ap (λ (d : ℕ). d - 48) (c .before .byte-at .ensures)) ∙ c .before .before .before .loop .inv .3)
 
--- src/lib.rt:105:1
 returns : tie.Need-returns Inv-loop μ-loop
 returns c = sym (value-all (now (c .before .before .before .args .bytes)) (c .before .loop .k) (c .before .before .before .args .end) (c .before .loop .value) (c .loop-test .left)) ∙ c .before .loop .inv .3
 

@@ -1,61 +1,44 @@
+-- `screens::numbers_at` meets its contract: the three ways to read two numbers (Numbers). No sum wraps, as a number has at most four digits.
 use Rattle.screens.proofs.Numbers.{four-facts, first-bad, second-bad, both-good}
 use native.Mathlib.Omega.{arith}
 use mathlib.Core.Path.{sym, _∙_}
 use borrow.Author.Needs.{needs}
 use Rattle.screens.proofs.numbers_at.Statement.{statement}
 use Rattle.screens.proofs.numbers_at.Tie as tie
-use Rattle.screens.proofs.numbers_at.Reads as reads
-use Rattle.screens.proofs.numbers_at.Lts as lts
-use Rattle.screens.proofs.digits_end.Reads as digits-end-reads
-use Rattle.screens.proofs.four_at_most.Reads as four-at-most-reads
-use Rattle.screens.proofs.number.Reads as number-reads
-use Rattle.screens.proofs.sized_of.Reads as sized-of-reads
 
--- src/lib.rt:144:9
 digits-end-requires : tie.Need-digits-end-requires
 digits-end-requires c κs = search needs
 
--- src/lib.rt:145:8
 four-at-most-requires : tie.Need-four-at-most-requires
 four-at-most-requires c κs = search needs
 
--- src/lib.rt:146:22
 add-second : tie.Need-add-second
 add-second c = omega (arith, (four-facts _ _ _ _ (sym (c .before .four-at-most .ensures) ∙ c .if1 .taken)) .1)
 
--- src/lib.rt:147:13
 digits-end-requires-2 : tie.Need-digits-end-requires-2
 digits-end-requires-2 c κs = search needs
 
--- src/lib.rt:148:12
 four-at-most-requires-2 : tie.Need-four-at-most-requires-2
 four-at-most-requires-2 c κs = omega (arith, (four-facts _ _ _ _ (sym (c .before .before .four-at-most .ensures) ∙ c .before .if1 .taken)) .1)
 
--- src/lib.rt:149:29
 number-requires : tie.Need-number-requires
 number-requires c κs = (omega (arith, (four-facts _ _ _ _ (sym (c .before .before .before .before .four-at-most .ensures) ∙ c .before .before .before .if1 .taken)) .0), (four-facts _ _ _ _ (sym (c .before .before .before .before .four-at-most .ensures) ∙ c .before .before .before .if1 .taken)) .1)
 
--- src/lib.rt:149:57
 number-requires-2 : tie.Need-number-requires-2
 number-requires-2 c κs = (omega (arith, (four-facts _ _ _ _ (sym (c .before .before .four-at-most2 .ensures) ∙ c .before .if2 .taken)) .0), (four-facts _ _ _ _ (sym (c .before .before .four-at-most2 .ensures) ∙ c .before .if2 .taken)) .1)
 
--- src/lib.rt:149:86
 add-sized-of : tie.Need-add-sized-of
 add-sized-of c = omega (arith, (four-facts _ _ _ _ (sym (c .before .before .before .before .before .before .four-at-most .ensures) ∙ c .before .before .before .before .before .if1 .taken)) .1, (four-facts _ _ _ _ (sym (c .before .before .before .four-at-most2 .ensures) ∙ c .before .before .if2 .taken)) .1)
 
--- src/lib.rt:149:13
 sized-of-requires : tie.Need-sized-of-requires
 sized-of-requires c κs = search needs
 
--- src/lib.rt:149:13
 returns : tie.Need-returns
 returns c = c .sized-of .ensures ∙ rw (c .before .before .number .ensures, c .before .number2 .ensures) (both-good _ _ _ (c .before .before .before .before .before .before .before .before .digits-end .ensures) (sym (c .before .before .before .before .before .before .before .four-at-most .ensures) ∙ c .before .before .before .before .before .before .if1 .taken) _ (c .before .before .before .before .before .digits-end2 .ensures) (sym (c .before .before .before .before .four-at-most2 .ensures) ∙ c .before .before .before .if2 .taken))
 
--- src/lib.rt:140:1
 returns-2 : tie.Need-returns-2
 returns-2 c = second-bad _ _ _ (c .before .before .before .before .before .digits-end .ensures) (sym (c .before .before .before .before .four-at-most .ensures) ∙ c .before .before .before .if1 .taken) _ (c .before .before .digits-end2 .ensures) (sym (c .before .four-at-most2 .ensures) ∙ c .if2 .left)
 
--- src/lib.rt:140:1
 returns-3 : tie.Need-returns-3
 returns-3 c = first-bad _ _ _ (c .before .before .digits-end .ensures) (sym (c .before .four-at-most .ensures) ∙ c .if1 .left)
 

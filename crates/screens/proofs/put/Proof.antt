@@ -1,23 +1,18 @@
+-- `screens::put` meets its contract.
 use Rattle.screens.proofs.Writing.{adds-byte}
 use borrow.Author.Needs.{needs}
 use Rattle.screens.proofs.put.Statement.{statement}
 use Rattle.screens.proofs.put.Tie as tie
-use Rattle.screens.proofs.put.Reads as reads
-use Rattle.screens.proofs.put.Lts as lts
 
--- src/lib.rt:169:5
 slice-write-out : tie.Need-slice-write-out
 slice-write-out c = search needs
 
--- src/lib.rt:170:5
 add-result : tie.Need-add-result
 add-result c = search needs
 
--- src/lib.rt:165:1
 same-length : tie.Need-same-length
 same-length c = search needs
 
--- src/lib.rt:165:1
 returns : tie.Need-returns
 returns c = adds-byte _ _ _ (c .pre)
 

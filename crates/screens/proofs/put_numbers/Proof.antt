@@ -1,3 +1,4 @@
+-- `screens::put_numbers` meets its contract. The invariant: the first k numbers are written, in at most 21 bytes each. What is left of them falls.
 use Rattle.screens.proofs.Decimal.{decimal-few}
 use lib.Seq.{take-length}
 use mathlib.Core.List.{[], _∷_}
@@ -11,9 +12,6 @@ use native.Mathlib.Omega.{arith}
 use borrow.Author.Needs.{needs}
 use Rattle.screens.proofs.put_numbers.Statement.{statement}
 use Rattle.screens.proofs.put_numbers.Tie as tie
-use Rattle.screens.proofs.put_numbers.Reads as reads
-use Rattle.screens.proofs.put_numbers.Lts as lts
-use Rattle.screens.proofs.put_number.Reads as put-number-reads
 
 abbrev Inv-loop : tie.InvT-loop
 Inv-loop out₀ at numbers next₀ k₀ k-end out next k = (k ≤ length numbers) × (k-end ≡ length numbers) × (next ≤ at + 21 * k) × Adds (spaced (take k numbers)) at out₀ next out
@@ -21,44 +19,35 @@ Inv-loop out₀ at numbers next₀ k₀ k-end out next k = (k ≤ length numbers
 abbrev μ-loop : tie.MeasureT-loop
 μ-loop out₀ at numbers next₀ k₀ k-end out next k = length numbers - k
 
--- src/lib.rt:201:5
 loop-holds : tie.Need-loop-holds Inv-loop μ-loop
 loop-holds c = (omega arith, refl, omega arith, adds-none _ _)
 
--- src/lib.rt:202:38
 mul-put-number : tie.Need-mul-put-number Inv-loop μ-loop
 mul-put-number c = search needs
 
--- src/lib.rt:202:38
 shared-slice-read-put-number : tie.Need-shared-slice-read-put-number Inv-loop μ-loop
 shared-slice-read-put-number c = search needs
 
--- src/lib.rt:202:9
 put-number-requires : tie.Need-put-number-requires Inv-loop μ-loop
 put-number-requires c κs = omega (arith, c .before .before .before .loop .inv .3 .len)
 
--- src/lib.rt:201:9
 add-k : tie.Need-add-k Inv-loop μ-loop
 add-k c = search needs
 
--- src/lib.rt:201:5
 loop-less : tie.Need-loop-less Inv-loop μ-loop
 loop-less c = search needs
 
--- src/lib.rt:201:5
 loop-again : tie.Need-loop-again Inv-loop μ-loop
 loop-again c = (
-      omega arith,
-      refl,
-      omega (arith, c .before .before .put-number .ensures .next-is, length-append (decimal (getD (now (c .before .before .before .before .before .before .before .before .before .args .numbers)) (c .before .before .before .before .before .before .loop .k) 0)) (32 ∷ []), decimal-few (getD (now (c .before .before .before .before .before .before .before .before .before .args .numbers)) (c .before .before .before .before .before .before .loop .k) 0)),
-      adds-number (now (c .before .before .before .before .before .before .before .before .before .args .numbers)) (c .before .before .before .before .before .before .loop .k) (omega arith) (c .before .before .before .before .before .before .loop .inv .3) (c .before .before .put-number .ensures),
-    )
+  omega arith,
+  refl,
+  omega (arith, c .before .before .put-number .ensures .next-is, length-append (decimal (getD (now (c .before .before .before .before .before .before .before .before .before .args .numbers)) (c .before .before .before .before .before .before .loop .k) 0)) (32 ∷ []), decimal-few (getD (now (c .before .before .before .before .before .before .before .before .before .args .numbers)) (c .before .before .before .before .before .before .loop .k) 0)),
+  adds-number (now (c .before .before .before .before .before .before .before .before .before .args .numbers)) (c .before .before .before .before .before .before .loop .k) (omega arith) (c .before .before .before .before .before .before .loop .inv .3) (c .before .before .put-number .ensures),
+)
 
--- src/lib.rt:196:1
 same-length : tie.Need-same-length Inv-loop μ-loop
 same-length c = c .before .loop .inv .3 .len
 
--- src/lib.rt:196:1
 returns : tie.Need-returns Inv-loop μ-loop
 returns c = let e : c .before .loop .k ≡ length (now (c .before .before .before .before .args .numbers)) = omega arith in rw (take-length) at (rw e at (c .before .loop .inv .3))
 

@@ -1,31 +1,24 @@
+-- `screens::sized_of` meets its contract.
 use Rattle.screens.specs.Header.{sized}
-use mathlib.Core.Path.{_≡_, refl, sym, _∙_}
+use mathlib.Core.Path.{sym, _∙_}
 use borrow.Author.Needs.{needs}
 use Rattle.screens.proofs.sized_of.Statement.{statement}
 use Rattle.screens.proofs.sized_of.Tie as tie
-use Rattle.screens.proofs.sized_of.Reads as reads
-use Rattle.screens.proofs.sized_of.Lts as lts
-use Rattle.screens.proofs.shown_side.Reads as shown-side-reads
 
--- src/lib.rt:128:8
 shown-side-requires : tie.Need-shown-side-requires
 shown-side-requires c κs = search needs
 
--- src/lib.rt:129:12
 shown-side-requires-2 : tie.Need-shown-side-requires-2
 shown-side-requires-2 c κs = search needs
 
--- src/lib.rt:130:13
 returns : tie.Need-returns
 unfolding sized
 returns c = rw (sym (c .before .before .before .shown-side .ensures) ∙ c .before .before .if1 .taken, sym (c .before .shown-side2 .ensures) ∙ c .if2 .taken)
 
--- src/lib.rt:125:1
 returns-2 : tie.Need-returns-2
 unfolding sized
 returns-2 c = rw (sym (c .before .before .before .shown-side .ensures) ∙ c .before .before .if1 .taken, sym (c .before .shown-side2 .ensures) ∙ c .if2 .left)
 
--- src/lib.rt:125:1
 returns-3 : tie.Need-returns-3
 unfolding sized
 returns-3 c = rw (sym (c .before .shown-side .ensures) ∙ c .if1 .left)

@@ -1,0 +1,73 @@
+// The screen program (01, "Screen program"): reads the sides and the pixels of a screen, loads it, locates the board and prints two lines.
+// What it reads and writes is in crate screens. It answers 11, 1, 2 and all of locating's.
+ghost use mathlib.Core.Path.{_≡_};
+ghost use Rattle.screen.specs.Screen as Spec;
+use libc::STDIN_FILENO;
+use libc::STDOUT_FILENO;
+use locate::Located;
+use screens::Input;
+use screens::Values;
+
+// What is printed of a located screen.
+fn located(l: Located) -> Values
+    ensures { λ r. ⌜ r ≡ Spec.located l ⌝ }
+{
+    let b = l.board;
+    Values {
+        answer: l.answer as u64,
+        rows: b.r as u64,
+        columns: b.c as u64,
+        r_1: b.r_1 as u64,
+        c_1: b.c_1 as u64,
+        r0: b.r0 as u64,
+        c0: b.c0 as u64,
+        quarterr: l.quarterr as u64,
+        quarterc: l.quarterc as u64,
+        votesr: l.votesr as u64,
+        votesc: l.votesc as u64,
+        narrowed: l.narrowed as u64,
+        height: b.height as u64,
+        width: b.width as u64,
+    }
+}
+
+// Loads and locates a screen of at most 64 by 64.
+fn values_of(height: usize, width: usize, pixels: &[u8]) -> Values {
+    let mut planes: [f32; 12288] = [0.0; 12288];
+    let loaded = load::new(height, width, pixels, &mut planes);
+    if loaded.answer != 0 {
+        return screens::alone(loaded.answer);
+    }
+    let b = loaded.board;
+    let mut edges: [u8; 4096] = [0; 4096];
+    let mut scores: [u32; 128] = [0; 128];
+    let mut floats: [f32; 4096] = [0.0; 4096];
+    let mut bytes: [u8; 4096] = [0; 4096];
+    let mut words: [u32; 512] = [0; 512];
+    located(locate::get_pos_pixel(
+        b,
+        &mut planes,
+        &mut edges,
+        &mut scores,
+        &mut floats,
+        &mut bytes,
+        &mut words,
+    ))
+}
+
+fn answer_to(bytes: &[u8]) -> Values {
+    match screens::header(bytes) {
+        Input::Sides { height, width, at } => values_of(height, width, screens::pixels(bytes, at)),
+        Input::Refused(n) => screens::alone(n),
+    }
+}
+
+// 16,407 bytes hold the longest first two lines, 23 bytes, and 64 by 64 pixels. Whatever follows is not read.
+fn main() {
+    let mut bytes: [u8; 16407] = [0; 16407];
+    let n = io::read_full(STDIN_FILENO, &mut bytes);
+    let values = answer_to(&bytes[..n]);
+    let mut text: [u8; 380] = [0; 380];
+    let count = screens::write_lines(values, &mut text);
+    io::write_all(STDOUT_FILENO, &text[..count]);
+}
