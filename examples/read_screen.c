@@ -73,6 +73,12 @@ static const char *meaning(uint32_t answer)
     case FOLGUTAN_BAD_SIDE: return "a side is outside its limits";
     case FOLGUTAN_SHORT_PIXELS: return "too few pixel bytes";
     case FOLGUTAN_SHORT_SLICE: return "a lent slice is too short";
+    case FOLGUTAN_BAD_VALUE: return "a plane value is not 0.0 to 1.0";
+    case FOLGUTAN_TOO_SMALL: return "too small";
+    case FOLGUTAN_COLUMNS_NO_GAP: return "columns without a gap above 5";
+    case FOLGUTAN_COLUMNS_TOO_FAR: return "columns too far apart";
+    case FOLGUTAN_ROWS_NO_GAP: return "rows without a gap above 5";
+    case FOLGUTAN_ROWS_TOO_FAR: return "rows too far apart";
     default: return "unknown";
     }
 }
@@ -88,6 +94,49 @@ static void print_load(const folgutan_loaded *loaded, const float *planes)
     printf("sides: height %zu, width %zu\n", height, width);
     printf("centre pixel, row %zu, column %zu: planes %.6f %.6f %.6f\n", row, column,
            planes[at], planes[plane + at], planes[2 * plane + at]);
+}
+
+/* Locates the board in the loaded planes and prints it, with the middle of each
+ * cell from plane 1. Answers 0 if a board was found. */
+static int print_board(folgutan_board board, float *planes, size_t planes_len)
+{
+    size_t area = board.height * board.width, sides = board.height + board.width;
+    uint8_t *edges = calloc(area, 1), *bytes = calloc(area, 1);
+    uint32_t *scores = calloc(sides, sizeof *scores);
+    uint32_t *words = calloc(4 * sides, sizeof *words);
+    float *floats = calloc(area, sizeof *floats);
+    int found = 1;
+    if (edges && bytes && scores && words && floats) {
+        folgutan_located l = folgutan_locate(board, planes, planes_len, edges, area, scores, sides,
+                                             floats, area, bytes, area, words, 4 * sides);
+        printf("locate: answer %u, %s\n", (unsigned)l.answer, meaning(l.answer));
+        if (l.answer == FOLGUTAN_DONE) {
+            printf("board: %zu rows, %zu columns, corner (%zu, %zu), offsets %zu and %zu\n", l.board.r,
+                   l.board.c, l.board.r_1, l.board.c_1, l.board.r0, l.board.c0);
+            printf("pitches: %.2f down with %u votes, %.2f across with %u votes\n", l.board.pixelr,
+                   (unsigned)l.votesr, l.board.pixelc, (unsigned)l.votesc);
+            for (size_t x = 0; x < l.board.r; x++) {
+                for (size_t y = 0; y < l.board.c; y++) {
+                    float cell[3] = {0, 0, 0};
+                    uint32_t answer = folgutan_sample(l.board, planes, planes_len, x, y, 1, cell, 3);
+                    if (answer == FOLGUTAN_DONE)
+                        printf(y ? " %.2f" : "%.2f", cell[1]);
+                    else
+                        printf(y ? " ?" : "?");
+                }
+                printf("\n");
+            }
+            found = 0;
+        }
+    } else {
+        fprintf(stderr, "no memory for the slices\n");
+    }
+    free(floats);
+    free(words);
+    free(scores);
+    free(bytes);
+    free(edges);
+    return found;
 }
 
 int main(int count, char **words)
@@ -126,8 +175,11 @@ int main(int count, char **words)
     folgutan_loaded loaded =
         folgutan_load(s.height, s.width, s.pixels, s.pixels_len, planes, planes_len);
     print_load(&loaded, planes);
+    int status = 1;
+    if (loaded.answer == FOLGUTAN_DONE)
+        status = print_board(loaded.board, planes, planes_len);
 
     free(planes);
     free(s.pixels);
-    return loaded.answer == FOLGUTAN_DONE ? 0 : 1;
+    return status;
 }
