@@ -82,7 +82,7 @@ pub fn widen(run: &Run) -> Outcome {
     let rng = &mut Rng::new(run.seed);
     let mut count = 0u64;
     let mut own = 0;
-    for _ in 0..run.choose(15_000, 600_000) {
+    for _ in 0..run.choose(15_000, 300_000) {
         count += 1;
         let (row, column) = (side(rng, 10, 140), side(rng, 10, 140));
         // the picture may be larger than the sides, as after a narrowing

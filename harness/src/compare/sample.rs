@@ -25,7 +25,7 @@ struct Call {
 pub fn compare(run: &Run) -> Outcome {
     let rng = &mut Rng::new(run.seed);
     let mut cases = Cases::default();
-    for _ in 0..run.choose(60, 1_500) {
+    for _ in 0..run.choose(60, 1_000) {
         let (height, width) = sides(rng);
         let values = planes(rng, 3 * height * width);
         for _ in 0..run.choose(150, 400) {
@@ -115,7 +115,7 @@ fn sides(rng: &mut Rng) -> (usize, usize) {
     match rng.below(12) {
         0 => (rng.between(4, 12), rng.between(4, MOST)),
         1 => (rng.between(4, MOST), rng.between(4, 12)),
-        2 => (rng.between(200, 500), rng.between(200, 500)),
+        2 => (rng.between(200, 260), rng.between(200, 260)),
         _ => (rng.between(4, 130), rng.between(4, 130)),
     }
 }
