@@ -176,7 +176,7 @@ folgutan_located folgutan_locate(folgutan_board board,
 /* What a line reading hands back: zeros unless the answer is 0. */
 typedef struct {
     uint32_t answer;
-    float pitch;    /* in quarters of a pixel: 8.0 to 200.0 */
+    float pitch;    /* in pixels, a multiple of 0.25: 8.0 to 200.0 */
     size_t offset;  /* of the first line */
     size_t count;   /* of cells; it can be 0 */
     size_t votes;   /* of this pitch with this offset: at least 1 */

@@ -18,7 +18,7 @@ low v = v .across / 3
 abbrev pub high : View → ℕ
 high v = 2 * v .across / 3
 
--- every point of the picture is one of n bytes
+-- every point of the picture is one of n bytes, and it is at most 4,094 across
 pub record Lies (v : View) (n : ℕ) : Type 0 where
   pub small : v .across ≤ 4094
   pub inside : (p q : ℕ) → p < v .across → q < v .along → p * v .down + q * v .right < n

@@ -1,4 +1,4 @@
--- The fourteen worked cases at the end of 01, by the definitions that the contracts cite. They hold together: proofs/Worked.
+-- The fourteen worked cases of 01, by the definitions that the contracts cite. They hold together: proofs/Worked.
 use Prim.Native.Nat.{ℕ, _*_}
 use mathlib.Core.Path.{_≡_}
 use mathlib.Core.Bool.{Bool, true, false, cond, _||_}

@@ -6,7 +6,7 @@ ghost use lib.ListN.{length, getD};
 ghost use Rattle.lines.specs.Lines.{largest, Scores, dropFirst, dropLast};
 ghost use Rattle.reading.specs.Reading.{pitchOf, countOf, accepted, quartersOf, pitched, readingOf, Readable, Pitched};
 
-// A pitch with the offset of the first line, a count and the votes, or a refusal.
+// A pitch with an offset, a count and the votes, or a refusal.
 pub enum Reading {
     Read {
         pitch: f32,

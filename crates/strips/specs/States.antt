@@ -15,7 +15,7 @@ use Rattle.strips.specs.Strip.{Place, at, onward, least, onStrip, score}
 abbrev pub Marks : List ℕ → Type 0
 Marks e = (k : ℕ) → getD e k 0 ≤ 1
 
--- what the two score lists ask: bounds within a packed picture, both spans at least 4
+-- what the two score lists ask: bounds within a packed picture of 0 and 1, sides of at most 4,094, both spans at least 4
 pub record Scorable (edges : List ℕ) (stride : ℕ) (b : Bounds) : Type 0 where
   pub rows : b .«r_1» + 4 ≤ b .«r_2»
   pub columns : b .«c_1» + 4 ≤ b .«c_2»
@@ -80,7 +80,7 @@ pub record Copied (e : List ℕ) (first stride w o : ℕ) (given t : List ℕ) :
   pub new : (d : ℕ) → d < w → getD t (o + d) 0 ≡ getD e (first + d * stride) 0
   pub old : (k : ℕ) → ((d : ℕ) → d < w → k ≡ o + d → ⊥) → getD t k 0 ≡ getD given k 0
 
--- w rows of a picture, the first at `first`, stand as places i to i + w of n rows of b bytes; the places before i are kept
+-- w rows of a picture, the first at `first`, stand as w places from i on in n rows of b bytes; the places before i are kept
 pub record Turned (e : List ℕ) (first stride n b i w : ℕ) (given t : List ℕ) : Type 0 where
   pub len : length t ≡ length given
   pub new : (j d : ℕ) → j < n → d < w → getD t (j * b + (i + d)) 0 ≡ getD e (first + d * stride + j) 0

@@ -290,7 +290,7 @@ fn copy_down(e: &[u8], first: usize, stride: usize, w: usize, t: &mut [u8], o: u
     }
 }
 
-// w rows of n bytes become places i to i + w of n rows of b bytes.
+// w rows of n bytes become w places from i on in n rows of b bytes.
 fn turn_rows(
     e: &[u8],
     first: usize,
@@ -350,7 +350,7 @@ fn shorter(a: usize, b: usize) -> usize
     if a < b { a } else { b }
 }
 
-// The same in bands of at most 128 strips: a turned band and its states then stay in the cache, and scratch stays small.
+// The same in bands of at most 128 strips: a turned band and its states then stay in the cache.
 fn banded_scores(
     e: &[u8],
     stride: usize,
