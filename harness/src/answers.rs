@@ -1,7 +1,6 @@
-//! The Rust's answers to fixed cases, as lines of text that a small program can print too.
+//! The Rust's answers to fixed cases, as text that the port's programs print too.
 
+mod asked;
 pub mod load;
-
-pub fn print() {
-    load::print();
-}
+pub mod locate;
+pub mod screens;

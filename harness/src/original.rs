@@ -4,6 +4,7 @@
 include!(env!("FOLGUTAN_OBR_FILE"));
 
 pub mod load;
+pub mod locate;
 pub mod probe;
 pub mod probed;
 pub mod steps;

@@ -1,4 +1,4 @@
-// Replays a fixed list of the Rust's answers: what it prints is held to the file stdout, which the Rust made (scripts/answers).
+// Replays a fixed list of the Rust's answers: what it prints is held to the file stdout, which the Rust made (scripts/answers load).
 use libc::STDOUT_FILENO;
 
 // A number in a line of its own.

@@ -1,14 +1,13 @@
 //! Locating beside `get_pos_pixel`: every field, the planes, the first edge picture and both score
-//! lists. Panics of the Rust are 6 and 8, pitches 0.0 are 7 and 9, a quiet return is 5. The lists
-//! and the votes come from the probed copy, which must do as the unchanged file does.
+//! lists. The lists and the votes come from the probed copy, which must do as the unchanged file does.
 
 use super::lent::Lent;
 use super::values::UNFIT;
 use super::{Outcome, Run, Tally};
-use crate::original::load::{numbers, planes, record};
-use crate::original::{probed, ImageBoard};
+use crate::original::load::{numbers, planes};
+use crate::original::locate::{traced, Traced};
+use crate::original::ImageBoard;
 use crate::port::{self, Board, Located, Slices};
-use crate::quiet::caught;
 use crate::record::Record;
 use crate::rng::Rng;
 use crate::screens::{self, Drawn};
@@ -276,7 +275,7 @@ impl Cases {
                 .or_else(|| scores.differs("scores", []))
                 .or_else(around);
         }
-        let want = match wanted(fresh, pixels, call) {
+        let want = match wanted(pixels, call) {
             Ok(want) => want,
             Err(found) => return Some(found),
         };
@@ -306,52 +305,30 @@ fn unlike(want: &Located, have: &Located) -> Option<String> {
     (key(want) != key(have)).then(|| format!("Rust {want:?}, port {have:?}"))
 }
 
-/// Runs the unchanged file and the probed copy.
-fn wanted(mut board: ImageBoard, pixels: &[u8], call: &Call) -> Result<Wanted, String> {
-    let whole = caught(|| board.get_pos_pixel()).is_some();
-    let (seen, probed_record, probed_planes) =
-        probed::locate(numbers(pixels), call.height, call.width);
-    let rust = record(&board);
-    let planes: Vec<f32> = planes(&board).collect();
-    let bits = |list: &[f32]| list.iter().map(|x| x.to_bits()).collect::<Vec<_>>();
-    if whole.then_some(rust) != probed_record || bits(&planes) != bits(&probed_planes) {
-        return Err(format!("the probed copy differs: {rust:?}, {probed_record:?}"));
-    }
-
-    let answer = match (&seen.scores, seen.columns) {
-        (None, _) if !whole => return Err("the Rust panics before the scores".into()),
-        (None, _) => 5,
-        (Some(_), None) => 6,
-        (Some(_), Some(0.0)) => 7,
-        (Some(_), Some(_)) if !whole => 8,
-        _ if f32::from_bits(rust.pixelr) == 0.0 => 9,
-        _ => 0,
-    };
-    departures(answer, whole, &rust, seen.widened)?;
+/// What 01 asks for where the Rust's run is as docs/DIFFERENCES.md says.
+fn wanted(pixels: &[u8], call: &Call) -> Result<Wanted, String> {
+    let run = traced(pixels, call.height, call.width)?;
+    departures(&run)?;
+    let (answer, rust) = (run.answer, run.record);
     let given = Record { height: rust.height, width: rust.width, ..call.given };
     let mut located = refused(if answer == 0 { &rust } else { &given }, answer);
-    located.narrowed = seen.narrowed as u32;
+    located.narrowed = run.seen.narrowed as u32;
     if answer == 0 {
-        let quarter = |bits| (f32::from_bits(bits) * 4.0) as u32;
-        (located.quarterr, located.quarterc) = (quarter(rust.pixelr), quarter(rust.pixelc));
-        (located.votesc, located.votesr) = (seen.votes[0] as u32, seen.votes[1] as u32);
+        [located.quarterr, located.quarterc] = run.quarters();
+        [located.votesr, located.votesc] = run.votes();
     }
-    let scores = seen.scores.map_or(vec![], |(columns, rows)| [columns, rows].concat());
-    let far_panic = answer == 7 && !whole;
-    Ok(Wanted { located, planes, edges: seen.edges, scores, far_panic })
+    let scores = run.seen.scores.map_or(vec![], |(columns, rows)| [columns, rows].concat());
+    let far_panic = answer == 7 && !run.whole;
+    Ok(Wanted { located, planes: run.planes, edges: run.seen.edges, scores, far_panic })
 }
 
 /// What docs/DIFFERENCES.md says of the Rust's record at 5, 7 and 9.
-fn departures(
-    answer: u32,
-    whole: bool,
-    rust: &Record,
-    widened: Option<[usize; 4]>,
-) -> Result<(), String> {
+fn departures(run: &Traced) -> Result<(), String> {
+    let Traced { answer, whole, record: rust, .. } = run;
     let fresh = Record { height: rust.height, width: rust.width, ..Record::default() };
-    let corner = widened.map(|[r_1, _, c_1, _]| (r_1, c_1)) == Some((rust.r_1, rust.c_1));
+    let corner = run.seen.widened.map(|[r_1, _, c_1, _]| (r_1, c_1)) == Some((rust.r_1, rust.c_1));
     let as_said = match answer {
-        7 if whole => corner && (rust.pixelc, rust.c0, rust.c) == (0, 0, usize::MAX),
+        7 if *whole => corner && (rust.pixelc, rust.c0, rust.c) == (0, 0, usize::MAX),
         9 => corner && (rust.pixelr, rust.r0, rust.r) == (0, 0, usize::MAX) && rust.pixelc != 0,
         0 => corner,
         // a panic or a quiet return leaves the record fresh

@@ -1,5 +1,8 @@
-// Replays screens that the Rust located: the file data/screens holds them, one after another: height and width, two bytes each, low
-// byte first, then the pixels. What is printed is held to the file stdout, which the Rust made (scripts/answers screens).
+// Replays screens that the Rust located: standard input holds them, one after another: height and width, two bytes each, low byte
+// first, then the pixels. A line each has the answer and the record; what is printed is held to the file stdout, which the Rust made
+// (scripts/answers locate).
+ghost use Prim.Native.Nat.{_<_};
+use libc::STDIN_FILENO;
 use libc::STDOUT_FILENO;
 use locate::Located;
 
@@ -33,27 +36,14 @@ fn show(l: Located) {
     io::write_all(STDOUT_FILENO, b"\n");
 }
 
-fn wide(b: u8) -> usize {
+fn wide(b: u8) -> usize
+    ensures { λ r. ⌜ r < 256 ⌝ }
+{
     b as usize
 }
 
-// The next screen of the file, located; false where the file has no whole screen left, or its sides are too large.
-fn replayed(
-    file: i32,
-    pixels: &mut [u8],
-    planes: &mut [f32],
-    edges: &mut [u8],
-    scores: &mut [u32],
-    floats: &mut [f32],
-    bytes: &mut [u8],
-    words: &mut [u32],
-) -> bool {
-    let mut sides = [0u8; 4];
-    if io::read_full(file, &mut sides) < 4 {
-        return false;
-    }
-    let height = wide(sides[0]) + 256 * wide(sides[1]);
-    let width = wide(sides[2]) + 256 * wide(sides[3]);
+// Reads the pixels of a screen; false where a side is too large, or pixels are missing.
+fn read_pixels(height: usize, width: usize, pixels: &mut [u8]) -> bool {
     if MOST < height {
         return false;
     }
@@ -64,27 +54,60 @@ fn replayed(
     if pixels.len() < n {
         return false;
     }
-    if io::read_full(file, &mut pixels[..n]) < n {
+    io::read_full(STDIN_FILENO, &mut pixels[..n]) == n
+}
+
+// Loads a screen, locates its board and prints the line. The record of a screen that does not load is zeros, which locating refuses.
+fn replay(
+    height: usize,
+    width: usize,
+    pixels: &[u8],
+    planes: &mut [f32],
+    edges: &mut [u8],
+    scores: &mut [u32],
+    floats: &mut [f32],
+    bytes: &mut [u8],
+    words: &mut [u32],
+) {
+    let loaded = load::new(height, width, pixels, planes);
+    show(locate::get_pos_pixel(loaded.board, planes, edges, scores, floats, bytes, words));
+}
+
+// Replays the next screen; false where no whole screen is left.
+fn replayed(
+    pixels: &mut [u8],
+    planes: &mut [f32],
+    edges: &mut [u8],
+    scores: &mut [u32],
+    floats: &mut [f32],
+    bytes: &mut [u8],
+    words: &mut [u32],
+) -> bool {
+    let mut sides = [0u8; 4];
+    if io::read_full(STDIN_FILENO, &mut sides) < 4 {
         return false;
     }
-    let loaded = load::new(height, width, pixels, planes);
-    show(
-        locate::get_pos_pixel(
-            loaded.board,
-            planes,
-            edges,
-            scores,
-            floats,
-            bytes,
-            words,
-        ),
+    let height = wide(sides[0]) + 256 * wide(sides[1]);
+    let width = wide(sides[2]) + 256 * wide(sides[3]);
+    if !read_pixels(height, width, pixels) {
+        return false;
+    }
+    replay(
+        height,
+        width,
+        pixels,
+        planes,
+        edges,
+        scores,
+        floats,
+        bytes,
+        words,
     );
     true
 }
 
-// All of them, at most a hundred.
+// All screens, at most a hundred.
 fn replay_all(
-    file: i32,
     pixels: &mut [u8],
     planes: &mut [f32],
     edges: &mut [u8],
@@ -95,7 +118,7 @@ fn replay_all(
 ) {
     let mut left: usize = 100;
     while 0 < left {
-        if replayed(file, pixels, planes, edges, scores, floats, bytes, words) {
+        if replayed(pixels, planes, edges, scores, floats, bytes, words) {
             left = left - 1;
         } else {
             left = 0;
@@ -104,7 +127,6 @@ fn replay_all(
 }
 
 fn main() {
-    let file = os::open_read(b"screens");
     let mut pixels: [u8; 176400] = [0; 176400];
     let mut planes: [f32; 132300] = [0.0; 132300];
     let mut edges: [u8; 44100] = [0; 44100];
@@ -113,7 +135,6 @@ fn main() {
     let mut bytes: [u8; 44100] = [0; 44100];
     let mut words: [u32; 1680] = [0; 1680];
     replay_all(
-        file,
         &mut pixels,
         &mut planes,
         &mut edges,

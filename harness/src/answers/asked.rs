@@ -1,0 +1,74 @@
+//! Fixed screens: each is the first of its kind, counted by seed from its area, that the Rust ends on
+//! as asked.
+
+use crate::original::locate::{traced, Traced};
+use crate::rng::Rng;
+use crate::screens::{self, Drawn};
+
+#[derive(Clone, Copy, Debug)]
+pub enum Kind {
+    /// A drawn board over most of the screen.
+    Board,
+    /// The same, each byte moved by at most 4.
+    Noisy,
+    /// Texture with a flat bar, which takes a narrowing, and a board at the top left.
+    Textured,
+    /// One colour.
+    Blank,
+}
+
+impl Kind {
+    fn pixels(self, rng: &mut Rng, height: usize, width: usize) -> Vec<u8> {
+        match self {
+            Kind::Board | Kind::Noisy => {
+                let most = (height.min(width) / 3).clamp(8, 40);
+                let mut pixels = Drawn::filling(rng, height, width, 4, most).screen(height, width);
+                if matches!(self, Kind::Noisy) {
+                    screens::noisy(rng, &mut pixels, 4);
+                }
+                pixels
+            }
+            Kind::Textured => screens::textured(rng, height, width, 1),
+            Kind::Blank => screens::blank(height, width, rng.word() as u8),
+        }
+    }
+}
+
+/// A screen that is wanted: its kind and sides, the answer, and how often it is narrowed.
+#[derive(Debug)]
+pub struct Asked {
+    pub kind: Kind,
+    pub height: usize,
+    pub width: usize,
+    pub answer: u32,
+    pub narrowed: usize,
+}
+
+/// Seeds that are tried for one screen.
+const SEEDS: u64 = 10_000;
+
+/// The least rows and columns of a board that is read.
+const CELLS: usize = 3;
+
+impl Asked {
+    /// The pixels, and the Rust's run on them.
+    pub fn found(&self) -> Result<(Vec<u8>, Traced), String> {
+        let first = (self.height * self.width) as u64;
+        for seed in first..first + SEEDS {
+            let pixels = self.kind.pixels(&mut Rng::new(seed), self.height, self.width);
+            let run = traced(&pixels, self.height, self.width)?;
+            if self.fits(&run) {
+                return Ok((pixels, run));
+            }
+        }
+        Err(format!("no screen was found for {self:?}"))
+    }
+
+    /// A board that is read has unlike pitches, so that rows taken for columns would show.
+    fn fits(&self, run: &Traced) -> bool {
+        let record = &run.record;
+        let board = record.r.min(record.c) >= CELLS && record.pixelr != record.pixelc;
+        (run.answer, run.seen.narrowed) == (self.answer, self.narrowed)
+            && (run.answer != 0 || board)
+    }
+}

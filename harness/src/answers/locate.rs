@@ -1,0 +1,47 @@
+//! Screens and what locating leaves of each, for crates/replay_screens. The file has the screens one
+//! after another: height and width, two bytes each, low byte first, then the pixels. A line each has
+//! the answer and the Rust's fields afterwards, the pitches by their bits. The answer is 0 where the
+//! Rust reads the board; where it returns early or panics, 01's number for that.
+
+use super::asked::{Asked, Kind};
+use crate::record::Record;
+use std::fs;
+use std::path::Path;
+
+const fn read(kind: Kind, height: usize, width: usize) -> Asked {
+    Asked { kind, height, width, answer: 0, narrowed: 0 }
+}
+
+const fn narrowed(height: usize, width: usize) -> Asked {
+    Asked { kind: Kind::Textured, height, width, answer: 0, narrowed: 1 }
+}
+
+const ASKED: &[Asked] = &[
+    read(Kind::Board, 40, 61),
+    read(Kind::Board, 90, 47),
+    read(Kind::Board, 75, 120),
+    read(Kind::Noisy, 62, 62),
+    read(Kind::Noisy, 53, 101),
+    read(Kind::Noisy, 118, 80),
+    narrowed(201, 201),
+    narrowed(201, 207),
+    narrowed(206, 202),
+    Asked { kind: Kind::Blank, height: 33, width: 47, answer: 5, narrowed: 1 },
+    Asked { kind: Kind::Board, height: 45, width: 58, answer: 6, narrowed: 0 },
+    Asked { kind: Kind::Board, height: 58, width: 45, answer: 8, narrowed: 0 },
+];
+
+/// Writes the screens, and prints the lines.
+pub fn write(file: &Path) -> Result<(), String> {
+    let mut screens = vec![];
+    for asked in ASKED {
+        let (pixels, run) = asked.found()?;
+        for side in [asked.height, asked.width] {
+            screens.extend((side as u16).to_le_bytes());
+        }
+        screens.extend(pixels);
+        let Record { height, width, r_1, c_1, r0, c0, r, c, pixelr, pixelc } = run.record;
+        println!("{} {height} {width} {r_1} {c_1} {r0} {c0} {r} {c} {pixelr} {pixelc}", run.answer);
+    }
+    fs::write(file, screens).map_err(|error| format!("{}: {error}", file.display()))
+}
