@@ -1,5 +1,6 @@
-//! Runs the port beside the Rust that it was ported from. Each operation has a module in `compare`,
-//! one in `bench` and one in `answers`; the one in `original` reads the Rust's private values.
+//! Runs the port beside the Rust that it was ported from. An operation has a module in `compare` and
+//! most have one in `bench`; those in `original` read the Rust's private values, and those in
+//! `answers` write its answers to fixed cases.
 
 pub mod answers;
 #[cfg(feature = "port")]
