@@ -13,8 +13,8 @@ use Rattle.binary32.proofs.Plain.{Plain, above-bits, below-bits}
 use Rattle.rank.specs.Rank.{entry, countAtMost}
 use Rattle.rank.proofs.Entry.{at-least, at-most}
 use Rattle.rank.proofs.Members.{entry-has}
-use Rattle.edges.specs.Edges.{sample, clip, rankOf, threshold, AllPlain}
-use Rattle.edges.proofs.Sample.{rank-below, sample-plain}
+use Rattle.edges.specs.Edges.{sample, clip, rankOf, threshold, part}
+use Rattle.edges.proofs.Sample.{part-all}
 
 -- the bits of the threshold where the entry has the bits b
 abbrev pub clipped : ℕ → ℕ
@@ -34,49 +34,51 @@ clip-bits x p =
         sym (ofBits-toBits binary32 x (p .held))
         ∙ ap (ofBits binary32) (omega (arith, ltb-false 0x3F800000 (toBits binary32 x) e, ltb-false (toBits binary32 x) 0x3C23D70A d))
 
--- the bits of entry `rank` of the sample
-abbrev pub ranked : ℕ → ℕ → List Float → ℕ → ℕ
-ranked row column g rank = toBits binary32 (entry (toBits binary32) nan (sample row column g) rank)
+-- the bits of entry `rank`
+abbrev pub ranked : List Float → ℕ → ℕ
+ranked l rank = toBits binary32 (entry (toBits binary32) nan l rank)
 
--- `rank` is the rank in the sample, and there is an entry at it
-pub record Rank (row column : ℕ) (g : List Float) (rank : ℕ) : Type 0 where
-  pub is : rank ≡ rankOf (length (sample row column g))
-  pub in-sample : rank < length (sample row column g)
-  pub plain : Plain (entry (toBits binary32) nan (sample row column g) rank)
+-- the clipped entry of plain values by its bits
+pub clipped-is : (l : List Float) (rank : ℕ) → rank < length l → ((k : ℕ) → k < length l → Plain (getD l k nan))
+    → clip (entry (toBits binary32) nan l rank) ≡ ofBits binary32 (clipped (ranked l rank))
+clipped-is l rank h p = clip-bits _ (entry-has (toBits binary32) nan Plain l rank h p)
 
-pub rank-in : (row column : ℕ) (g : List Float) (m rank : ℕ) → 2 ≤ column → 0 < m → m ≤ 2 ^ 22 → m ≡ length (sample row column g)
-    → rank ≡ rankOf m → length g ≡ row * column → ((k : ℕ) → T (fits binary32 (getD g k nan))) → AllPlain g → Rank row column g rank
-rank-in row column g m rank c z h e r l f p =
-    let b : rank < length (sample row column g) = omega (arith, rank-below m z h) in
-    record {
-      is = rw (sym e) r;
-      in-sample = b;
-      plain = entry-has (toBits binary32) nan Plain (sample row column g) rank b (sample-plain row column g c l f p);
-    }
-
-pub threshold-is : {row column : ℕ} {g : List Float} {rank : ℕ} → Rank row column g rank
-    → threshold row column g ≡ ofBits binary32 (clipped (ranked row column g rank))
+pub threshold-is : (row column : ℕ) (g : List Float) (rank : ℕ) → rank ≡ rankOf (length (part 1 row column g))
+    → threshold row column g ≡ clip (entry (toBits binary32) nan (part 1 row column g) rank)
 unfolding threshold
-threshold-is r = rw (sym (r .is)) (clip-bits _ (r .plain))
+threshold-is row column g rank e = rw (e, part-all row column g)
 
 -- ---- halving
 
--- the bits of the threshold lie in lo to hi, within the limits
-pub record Around (b lo hi : ℕ) : Type 0 where
+-- the bits of the clipped entry lie in lo to hi, within the limits
+pub record Around (l : List Float) (rank lo hi : ℕ) : Type 0 where
   pub floor : 0x3C23D70A ≤ lo
-  pub low : lo ≤ clipped b
-  pub high : clipped b ≤ hi
   pub ceiling : hi ≤ 0x3F800000
+  pub some : lo ≤ hi
+  pub low : rank < length l → lo ≤ clipped (ranked l rank)
+  pub high : rank < length l → clipped (ranked l rank) ≤ hi
 
-module _ {row column : ℕ} {g : List Float} {rank : ℕ} (r : Rank row column g rank) where
-  pub around-left : {lo hi : ℕ} (mid : ℕ) → Around (ranked row column g rank) lo hi → lo ≤ mid → mid ≤ hi
-      → rank < countAtMost (toBits binary32) mid (sample row column g) → Around (ranked row column g rank) lo mid
-  around-left mid a l h c =
-      let b = at-least (toBits binary32) nan mid (sample row column g) rank (r .in-sample) c in
-      record { floor = a .floor; low = a .low; high = omega (arith, a .floor); ceiling = omega (arith, a .ceiling) }
+pub around-all : {l : List Float} {rank : ℕ} → Around l rank 0x3C23D70A 0x3F800000
+around-all = record { floor = omega arith; ceiling = omega arith; some = omega arith; low = λ h. omega arith; high = λ h. omega arith }
 
-  pub around-right : {lo hi : ℕ} (mid : ℕ) → Around (ranked row column g rank) lo hi → lo ≤ mid → mid < hi
-      → countAtMost (toBits binary32) mid (sample row column g) ≤ rank → Around (ranked row column g rank) (mid + 1) hi
-  around-right mid a l h c =
-      let b = at-most (toBits binary32) nan mid (sample row column g) rank (r .in-sample) c in
-      record { floor = omega (arith, a .floor); low = omega (arith, a .ceiling); high = a .high; ceiling = a .ceiling }
+pub around-left : {l : List Float} {rank lo hi : ℕ} (mid : ℕ) → Around l rank lo hi → lo ≤ mid → mid ≤ hi
+    → rank < countAtMost (toBits binary32) mid l → Around l rank lo mid
+around-left {l} {rank} mid a m h c =
+    record {
+      floor = a .floor;
+      ceiling = omega (arith, a .ceiling);
+      some = m;
+      low = a .low;
+      high = λ r. omega (arith, a .floor, at-least (toBits binary32) nan mid l rank r c);
+    }
+
+pub around-right : {l : List Float} {rank lo hi : ℕ} (mid : ℕ) → Around l rank lo hi → lo ≤ mid → mid < hi
+    → countAtMost (toBits binary32) mid l ≤ rank → Around l rank (mid + 1) hi
+around-right {l} {rank} mid a m h c =
+    record {
+      floor = omega (arith, a .floor);
+      ceiling = a .ceiling;
+      some = omega arith;
+      low = λ r. omega (arith, a .ceiling, at-most (toBits binary32) nan mid l rank r c);
+      high = a .high;
+    }

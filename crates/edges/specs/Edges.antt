@@ -1,5 +1,5 @@
 -- 01, "Gradient and threshold", second paragraph. g is the list of gradients, `row` rows of `column` each.
-use Prim.Native.Nat.{ℕ, _+_, _-_, _*_, _/_, _≤_, _<_}
+use Prim.Native.Nat.{ℕ, _+_, _-_, _*_, _/_, _%_, _^_, _≤_, _<_}
 use mathlib.Core.Bool.{cond}
 use mathlib.Core.List.{List}
 use lib.IntN.{pos}
@@ -10,6 +10,7 @@ use Rattle.lists.specs.Picture.{bit}
 use Rattle.binary32.specs.Binary32.{trunc}
 use Rattle.rank.specs.Rank.{entry}
 use Rattle.gradient.specs.Gradient.{gradients}
+use Rattle.edges.specs.declared.Range.{Range}
 
 -- the gradients of the middle half, rows first
 abbrev pub sample : ℕ → ℕ → List Float → List Float
@@ -41,3 +42,13 @@ edges h w planes = marks (threshold (h - 2) (w - 2) (gradients h w planes)) ((h 
 -- every value has bits of at most infinity's: none is below 0.0, -0.0 or no number
 abbrev pub AllPlain : List Float → Type 0
 AllPlain g = (k : ℕ) → k < length g → toBits binary32 (getD g k nan) ≤ 0x7F800000
+
+-- one value in p of the sample: of row i, part 3 · i mod p of its columns. It is the sample itself where p is 1.
+abbrev pub part : ℕ → ℕ → ℕ → List Float → List Float
+part p row column g =
+    let n = (3 * column / 4 - column / 4) / p in
+    grid (3 * row / 4 - row / 4) n (λ i j. getD g ((row / 4 + i) * column + (column / 4 + 3 * i % p * n) + j) nan)
+
+-- mid lies in the range, before its end
+abbrev pub Placed : Range → Type 0
+Placed r = (r .lo ≤ r .mid) × (r .mid ≤ r .hi) × (r .lo < r .hi → r .mid < r .hi) × (1 ≤ r .reach) × (r .reach ≤ 2 ^ 26)

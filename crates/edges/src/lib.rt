@@ -2,18 +2,24 @@
 // Definitions: specs/Edges. Laws for callers: proofs/Laws.
 ghost use mathlib.Core.Path.{_≡_};
 ghost use mathlib.Core.List.{_++_};
-ghost use Prim.Native.Nat.{ℕ, _+_, _-_, _*_, _/_, _^_, _≤_, _<_};
-ghost use lib.Ieee.{nan, binary32, le, toBits};
+ghost use Prim.Native.Nat.{ℕ, _+_, _-_, _*_, _/_, _^_, _≤_, _<_, min};
+ghost use lib.Ieee.{nan, binary32, le, toBits, ofBits};
 ghost use lib.ListN.{length, getD, drop};
 ghost use Rattle.lists.specs.Tab.{tab};
 ghost use Rattle.lists.specs.Picture.{bit};
-ghost use Rattle.rank.specs.Rank.{countAtMost};
-ghost use Rattle.edges.specs.Edges.{sample, rankOf, threshold, marks, AllPlain};
+ghost use Rattle.rank.specs.Rank.{entry, countAtMost};
+ghost use Rattle.edges.specs.Edges.{rankOf, clip, threshold, marks, AllPlain, part, Placed};
 
 // The bits of 0.01 and of 1.0, the limits of the threshold.
 const LEAST_BITS: u32 = 0x3C23D70A;
 
 const MOST_BITS: u32 = 0x3F800000;
+
+// A part of the sample is one value in so many: a guess needs no more.
+const PARTS: usize = 7;
+
+// A reach that leaves only the halving.
+const FAR: u32 = 0x4000000;
 
 // The place in the sorted sample of m.
 fn rank_of(m: usize) -> u64
@@ -52,40 +58,132 @@ fn middle(side: usize) -> usize
     3 * side / 4 - side / 4
 }
 
-// How many values of the sample are at most the value with these bits.
-fn count_sample(row: usize, column: usize, g: &[f32], bits: u32) -> u32
-    requires { ⌜ (row ≤ 4094) × (column ≤ 4094) × (length (now g) ≡ row * column) × (bits ≤ 0x7F800000) ⌝ }
+// How many values of a part of the sample are at most the value with these bits.
+fn count_part(parts: usize, row: usize, column: usize, g: &[f32], bits: u32) -> u32
+    requires { ⌜ (1 ≤ parts) × (row ≤ 4094) × (column ≤ 4094) × (length (now g) ≡ row * column) × (bits ≤ 0x7F800000) ⌝ }
     requires { ⌜ AllPlain (now g) ⌝ }
-    ensures { λ r. ⌜ r ≡ countAtMost (toBits binary32) bits (sample row column (now (g .entry))) ⌝ }
+    ensures { λ r. ⌜ r ≡ countAtMost (toBits binary32) bits (part parts row column (now (g .entry))) ⌝ }
 {
     let rows = middle(row);
-    let columns = middle(column);
+    let columns = middle(column) / parts;
     let mut count: u32 = 0;
     for i in 0..rows {
-        count = count + count_row(g, (row / 4 + i) * column + column / 4, columns, bits);
+        let from = (row / 4 + i) * column + (column / 4 + 3 * i % parts * columns);
+        count = count + count_row(g, from, columns, bits);
     }
     count
 }
 
-// The threshold, found by halving the range of its bits: no sort, no copy. The first count is at 0.01, which on a clean screen is the answer.
+// A range that holds the bits looked for, where to count next, and how far from there the count after it may lie.
+struct Range {
+    lo: u32,
+    hi: u32,
+    mid: u32,
+    reach: u32,
+}
+
+fn smaller(a: u32, b: u32) -> u32
+    ensures { λ r. ⌜ r ≡ min a b ⌝ }
+{
+    if a < b { a } else { b }
+}
+
+// The next reach: it grows until the halves are smaller.
+fn wider(reach: u32) -> u32
+    requires { ⌜ (1 ≤ reach) × (reach ≤ 2 ^ 26) ⌝ }
+    ensures { λ r. ⌜ (1 ≤ r) × (r ≤ 2 ^ 26) ⌝ }
+{
+    if reach < 0x1000000 { 4 * reach } else { reach }
+}
+
+// Up to mid; the next count is below it.
+fn lower(r: Range) -> Range
+    requires { ⌜ Placed r × (r .lo < r .hi) ⌝ }
+    ensures { λ s. ⌜ Placed s × (s .lo ≡ r .lo) × (s .hi ≡ r .mid) ⌝ }
+{
+    Range {
+        lo: r.lo,
+        hi: r.mid,
+        mid: r.mid - smaller(r.reach, (r.mid - r.lo + 1) / 2),
+        reach: wider(r.reach),
+    }
+}
+
+// Above mid; the next count is from there on.
+fn upper(r: Range) -> Range
+    requires { ⌜ Placed r × (r .lo < r .hi) ⌝ }
+    ensures { λ s. ⌜ Placed s × (s .lo ≡ r .mid + 1) × (s .hi ≡ r .hi) ⌝ }
+{
+    let lo = r.mid + 1;
+    Range {
+        lo: lo,
+        hi: r.hi,
+        mid: lo + smaller(r.reach - 1, (r.hi - lo) / 2),
+        reach: wider(r.reach),
+    }
+}
+
+// The bits of the clipped entry `rank` of a part of the sample, found by counting: no sort, no copy. The first count is at `start`.
+fn ranked_bits(
+    parts: usize,
+    row: usize,
+    column: usize,
+    g: &[f32],
+    rank: u64,
+    start: u32,
+    reach: u32,
+) -> u32
+    requires { ⌜ (1 ≤ parts) × (row ≤ 4094) × (2 ≤ column) × (column ≤ 4094) × (length (now g) ≡ row * column) ⌝ }
+    requires { ⌜ (0x3C23D70A ≤ start) × (start ≤ 0x3F800000) × (1 ≤ reach) × (reach ≤ 2 ^ 26) ⌝ }
+    requires { ⌜ AllPlain (now g) ⌝ }
+    ensures { λ r. ⌜ (0x3C23D70A ≤ r) × (r ≤ 0x3F800000) ⌝ }
+    ensures { λ r. ⌜ (rank < length (part parts row column (now (g .entry))) → ofBits binary32 r ≡ clip (entry (toBits binary32) nan (part parts row column (now (g .entry))) rank)) ⌝ }
+{
+    let mut range = Range {
+        lo: LEAST_BITS,
+        hi: MOST_BITS,
+        mid: smaller(start, MOST_BITS - 1),
+        reach: reach,
+    };
+    while range.lo < range.hi {
+        if rank < count_part(parts, row, column, g, range.mid) as u64 {
+            range = lower(range);
+        } else {
+            range = upper(range);
+        }
+    }
+    range.lo
+}
+
+// The rank in a part of the sample that comes to `rank` in the sample, from how many of each are at most the same value.
+fn moved(rank: u64, of_part: u32, of_all: u32) -> u64
+    requires { ⌜ rank ≤ 2 ^ 32 ⌝ }
+{
+    let sum = PARTS as u64 * of_part as u64 + rank;
+    if sum < of_all as u64 { 0 } else { (sum - of_all as u64) / PARTS as u64 }
+}
+
+// Bits near the threshold's, from a part of the sample and one count of all of it. Only the time depends on how near they are.
+fn guess(row: usize, column: usize, g: &[f32], rank: u64) -> u32
+    requires { ⌜ (row ≤ 4094) × (2 ≤ column) × (column ≤ 4094) × (length (now g) ≡ row * column) × (rank ≤ 2 ^ 32) ⌝ }
+    requires { ⌜ AllPlain (now g) ⌝ }
+    ensures { λ r. ⌜ (0x3C23D70A ≤ r) × (r ≤ 0x3F800000) ⌝ }
+{
+    let near = ranked_bits(PARTS, row, column, g, rank / PARTS as u64, LEAST_BITS, FAR);
+    let of_part = count_part(PARTS, row, column, g, near);
+    let of_all = count_part(1, row, column, g, near);
+    ranked_bits(PARTS, row, column, g, moved(rank, of_part, of_all), near, 1)
+}
+
+// The threshold. On a clean screen it is 0.01, and the second count finds that out.
 fn threshold_of(row: usize, column: usize, g: &[f32]) -> f32
     requires { ⌜ (2 ≤ row) × (row ≤ 4094) × (2 ≤ column) × (column ≤ 4094) × (length (now g) ≡ row * column) ⌝ }
     requires { ⌜ AllPlain (now g) ⌝ }
     ensures { λ r. ⌜ r ≡ threshold row column (now (g .entry)) ⌝ }
 {
     let rank = rank_of(middle(row) * middle(column));
-    let mut lo: u32 = LEAST_BITS;
-    let mut hi: u32 = MOST_BITS;
-    let mut mid: u32 = lo;
-    while lo < hi {
-        if rank < count_sample(row, column, g, mid) as u64 {
-            hi = mid;
-        } else {
-            lo = mid + 1;
-        }
-        mid = lo + (hi - lo) / 2;
-    }
-    f32::from_bits(lo)
+    let near = guess(row, column, g, rank);
+    f32::from_bits(ranked_bits(1, row, column, g, rank, near, 1))
 }
 
 // A byte for each gradient, 1 where it is at least the threshold.
