@@ -1,4 +1,4 @@
--- 01, "Screen program": what is printed for the bytes of the input.
+-- 01, "Screen program": the values that are printed, from the bytes of the input alone.
 use Prim.Native.Nat.{ℕ, _*_}
 use mathlib.Core.Bool.{cond}
 use mathlib.Core.List.{List}
@@ -15,7 +15,7 @@ use Rattle.screens.specs.declared.Values.{Values}
 use Rattle.screens.specs.Header.{headerOf}
 use Rattle.screens.specs.Text.{alone}
 
--- of a located screen: rows is r, columns is c; the last two are the sides afterwards
+-- what is printed of a located screen: rows is r, columns is c; the last two are the sides afterwards
 abbrev pub located : Located → Values
 located l =
     record {
@@ -35,20 +35,21 @@ located l =
       width = l .board .width;
     }
 
--- of a screen with these sides and pixels: it is loaded into planes of its size and located. If loading refused, its answer alone.
+-- what is printed of a screen with these sides and pixels: it is loaded, into planes of its size, and located; where loading refused, its
+-- answer alone
 unfoldable pub valuesOf : ℕ → ℕ → List ℕ → Values
 unfolding loadAnswer found
 valuesOf h w pixels =
     let answer = loadAnswer h w (length pixels) (3 * (h * w)) in
     cond (eqb answer 0) (located (found (fresh h w) (packed (shown ofByte h w pixels)))) (alone answer)
 
--- of what the first two lines say, with the pixels behind them
+-- what is printed where the first two lines say this: the pixels stand behind them, and a refusal is printed alone
 unfoldable pub valuesFor : List ℕ → Input → Values
 unfolding valuesOf
 valuesFor bytes (Sides h w at) = valuesOf h w (drop at bytes)
 valuesFor bytes (Refused n) = alone n
 
--- of the input
+-- what is printed for the bytes of the input
 unfoldable pub answerTo : List ℕ → Values
 unfolding headerOf valuesFor
 answerTo bytes = valuesFor bytes (headerOf bytes)

@@ -37,7 +37,7 @@ fn located(l: Located) -> Values
     }
 }
 
-// Loads and locates a screen of at most 64 by 64.
+// Loads and locates a screen of at most 64 by 64. The planes lent are the screen's and no longer, so that the definition names no buffer.
 fn values_of(height: usize, width: usize, pixels: &[u8]) -> Values
     requires { ⌜ (height ≤ mostShown) × (width ≤ mostShown) ⌝ }
     ensures { λ r. ⌜ r ≡ valuesOf height width (now (pixels .entry)) ⌝ }
