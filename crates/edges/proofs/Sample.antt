@@ -20,52 +20,70 @@ use Rattle.rank.specs.Rank.{countAtMost}
 use Rattle.rank.proofs.Counts.{count-append, count-le}
 use Rattle.edges.specs.Edges.{sample, rankOf, AllPlain, part}
 
--- how many columns a part has of each row
-abbrev pub width : ℕ → ℕ → ℕ
-width p column = (3 * column / 4 - column / 4) / p
+-- how many rows a part has, or columns of each: one in s of the middle half of the side
+abbrev pub taken : ℕ → ℕ → ℕ
+taken s side = (3 * side / 4 - side / 4) / s
+
+-- where row i of a part begins
+abbrev pub start : ℕ → ℕ → ℕ → ℕ → ℕ → ℕ
+start s p row column i = (row / 4 + (s * i + 3 * i % s)) * column + (column / 4 + 5 * i % p * taken p column)
 
 -- the value in row i and column j of a part
-abbrev pub partAt : ℕ → ℕ → ℕ → List Float → ℕ → ℕ → Float
-partAt p row column g i j = getD g ((row / 4 + i) * column + (column / 4 + 3 * i % p * width p column) + j) nan
+abbrev pub partAt : ℕ → ℕ → ℕ → ℕ → List Float → ℕ → ℕ → Float
+partAt s p row column g i j = getD g (start s p row column i + j) nan
+
+-- place k, past a whole number of steps of s and within the next, lies in the middle half
+pub within : (s side i k : ℕ) → 1 ≤ s → i < taken s side → s * i + k % s < 3 * side / 4 - side / 4
+within s side i k z h =
+    let m = 3 * side / 4 - side / 4 in
+    let q : (i + 1) * s ≤ taken s side * s = mul-le-mul-right s (omega arith) in
+    omega (arith, mod-lt k z, div-mul-le-self m s, add-mul i 1 s, one-mul s, mul-comm s i)
 
 -- row i of a part lies among the gradients
-pub row-in : (p row column i : ℕ) → 1 ≤ p → i < 3 * row / 4 - row / 4
-    → (row / 4 + i) * column + (column / 4 + 3 * i % p * width p column) + width p column ≤ row * column
-row-in p row column i z h =
-    let q : row / 4 + i + 1 ≤ row = omega arith in
-    let n = width p column in
-    let e : 3 * i % p + 1 ≤ p = omega (arith, mod-lt (3 * i) z) in
-    let f : (3 * i % p + 1) * n ≤ p * n = mul-le-mul-right n e in
+pub row-in : (s p row column i : ℕ) → 1 ≤ s → 1 ≤ p → i < taken s row → start s p row column i + taken p column ≤ row * column
+row-in s p row column i y z h =
+    let q : row / 4 + (s * i + 3 * i % s) + 1 ≤ row = omega (arith, within s row i (3 * i) y h) in
+    let n = taken p column in
+    let e : 5 * i % p + 1 ≤ p = omega (arith, mod-lt (5 * i) z) in
+    let f : (5 * i % p + 1) * n ≤ p * n = mul-le-mul-right n e in
     let l : n * p ≤ 3 * column / 4 - column / 4 = div-mul-le-self (3 * column / 4 - column / 4) p in
-    omega (arith, mul-le-mul-right column q, add-mul (row / 4 + i) 1 column, one-mul column, add-mul (3 * i % p) 1 n, one-mul n, mul-comm p n)
+    omega
+    (arith, mul-le-mul-right column q, add-mul (row / 4 + (s * i + 3 * i % s)) 1 column, one-mul column, add-mul (5 * i % p) 1 n, one-mul n, mul-comm p n)
 
-pub length-part : (p row column : ℕ) (g : List Float) → length (part p row column g) ≡ (3 * row / 4 - row / 4) * width p column
-length-part p row column g = length-tabFrom 0 ((3 * row / 4 - row / 4) * width p column) _
+pub length-part : (s p row column : ℕ) (g : List Float) → length (part s p row column g) ≡ taken s row * taken p column
+length-part s p row column g = length-tabFrom 0 (taken s row * taken p column) _
 
 some-wide : {k : ℕ} (rows n : ℕ) → k < rows * n → 0 < n
 some-wide rows zero h = absurd (omega (arith, mul-zero rows))
 some-wide rows (suc n) h = omega arith
 
 -- every value of a part is one of the gradients
-pub part-plain : (p row column : ℕ) (g : List Float) → 1 ≤ p → length g ≡ row * column → ((k : ℕ) → T (fits binary32 (getD g k nan)))
-    → AllPlain g → (k : ℕ) → k < length (part p row column g) → Plain (getD (part p row column g) k nan)
-part-plain p row column g o e f q k h =
-    let rows = 3 * row / 4 - row / 4 in
-    let n = width p column in
-    let l : k < rows * n = omega (arith, length-part p row column g) in
+pub part-plain : (s p row column : ℕ) (g : List Float) → 1 ≤ s → 1 ≤ p → length g ≡ row * column → ((k : ℕ) → T (fits binary32 (getD g k nan)))
+    → AllPlain g → (k : ℕ) → k < length (part s p row column g) → Plain (getD (part s p row column g) k nan)
+part-plain s p row column g y o e f q k h =
+    let rows = taken s row in
+    let n = taken p column in
+    let l : k < rows * n = omega (arith, length-part s p row column g) in
     let z : 0 < n = some-wide rows n l in
-    let i = k / n in
-    let at = (row / 4 + i) * column + (column / 4 + 3 * i % p * n) + k % n in
-    let b : at < length g = omega (arith, row-in p row column i o (div-lt-iff-lt-mul z .1 l), mod-lt k z) in
-    rw (getD-tab (rows * n) k (cell (partAt p row column g) n) nan l) (bits-plain (getD g at nan) (f at) (q at b))
+    let at = start s p row column (k / n) + k % n in
+    let b : at < length g = omega (arith, row-in s p row column (k / n) y o (div-lt-iff-lt-mul z .1 l), mod-lt k z) in
+    rw (getD-tab (rows * n) k (cell (partAt s p row column g) n) nan l) (bits-plain (getD g at nan) (f at) (q at b))
 
 -- the part that is all of it
-pub part-all : (row column : ℕ) (g : List Float) → part 1 row column g ≡ sample row column g
+pub part-all : (row column : ℕ) (g : List Float) → part 1 1 row column g ≡ sample row column g
 part-all row column g =
     let n = 3 * column / 4 - column / 4 in
-    let e : width 1 column ≡ n = omega arith in
-    rw e
-    (tab-same ((3 * row / 4 - row / 4) * n) _ _ (λ k h. let z : 3 * (k / n) % 1 ≡ 0 = omega arith in ap (λ (p : ℕ). getD g p nan) (rw z (omega (arith, zero-mul n)))))
+    let d : taken 1 row ≡ 3 * row / 4 - row / 4 = omega arith in
+    let e : taken 1 column ≡ n = omega arith in
+    rw (d, e)
+    (tab-same
+    ((3 * row / 4 - row / 4) * n)
+    _
+    _
+    (λ k h.
+    let y : 1 * (k / n) + 3 * (k / n) % 1 ≡ k / n = omega arith in
+    let z : 5 * (k / n) % 1 ≡ 0 = omega arith in
+    ap (λ (p : ℕ). getD g p nan) (rw (y, z) (omega (arith, zero-mul n)))))
 
 -- ---- the rank
 

@@ -43,8 +43,8 @@ pub clipped-is : (l : List Float) (rank : ℕ) → rank < length l → ((k : ℕ
     → clip (entry (toBits binary32) nan l rank) ≡ ofBits binary32 (clipped (ranked l rank))
 clipped-is l rank h p = clip-bits _ (entry-has (toBits binary32) nan Plain l rank h p)
 
-pub threshold-is : (row column : ℕ) (g : List Float) (rank : ℕ) → rank ≡ rankOf (length (part 1 row column g))
-    → threshold row column g ≡ clip (entry (toBits binary32) nan (part 1 row column g) rank)
+pub threshold-is : (row column : ℕ) (g : List Float) (rank : ℕ) → rank ≡ rankOf (length (part 1 1 row column g))
+    → threshold row column g ≡ clip (entry (toBits binary32) nan (part 1 1 row column g) rank)
 unfolding threshold
 threshold-is row column g rank e = rw (e, part-all row column g)
 

@@ -43,11 +43,14 @@ edges h w planes = marks (threshold (h - 2) (w - 2) (gradients h w planes)) ((h 
 abbrev pub AllPlain : List Float → Type 0
 AllPlain g = (k : ℕ) → k < length g → toBits binary32 (getD g k nan) ≤ 0x7F800000
 
--- one value in p of the sample: of row i, part 3 · i mod p of its columns. It is the sample itself where p is 1.
-abbrev pub part : ℕ → ℕ → ℕ → List Float → List Float
-part p row column g =
+-- a part of the sample: one row in s, and of it one p-th of its columns, another one from row to row. With 1 and 1 it is the sample.
+abbrev pub part : ℕ → ℕ → ℕ → ℕ → List Float → List Float
+part s p row column g =
     let n = (3 * column / 4 - column / 4) / p in
-    grid (3 * row / 4 - row / 4) n (λ i j. getD g ((row / 4 + i) * column + (column / 4 + 3 * i % p * n) + j) nan)
+    grid
+    ((3 * row / 4 - row / 4) / s)
+    n
+    (λ i j. getD g ((row / 4 + (s * i + 3 * i % s)) * column + (column / 4 + 5 * i % p * n) + j) nan)
 
 -- mid lies in the range, before its end
 abbrev pub Placed : Range → Type 0

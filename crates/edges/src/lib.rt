@@ -15,8 +15,12 @@ const LEAST_BITS: u32 = 0x3C23D70A;
 
 const MOST_BITS: u32 = 0x3F800000;
 
-// A part of the sample is one value in so many: a guess needs no more.
-const PARTS: usize = 7;
+// A guess takes one row of the sample in EVERY, and of it one of PARTS parts: a fifteenth of the values.
+const EVERY: usize = 5;
+
+const PARTS: usize = 3;
+
+const SHARE: u64 = 15;
 
 // A reach that leaves only the halving.
 const FAR: u32 = 0x4000000;
@@ -59,16 +63,16 @@ fn middle(side: usize) -> usize
 }
 
 // How many values of a part of the sample are at most the value with these bits.
-fn count_part(parts: usize, row: usize, column: usize, g: &[f32], bits: u32) -> u32
-    requires { ⌜ (1 ≤ parts) × (row ≤ 4094) × (column ≤ 4094) × (length (now g) ≡ row * column) × (bits ≤ 0x7F800000) ⌝ }
+fn count_part(every: usize, parts: usize, row: usize, column: usize, g: &[f32], bits: u32) -> u32
+    requires { ⌜ (1 ≤ every) × (1 ≤ parts) × (row ≤ 4094) × (column ≤ 4094) × (length (now g) ≡ row * column) × (bits ≤ 0x7F800000) ⌝ }
     requires { ⌜ AllPlain (now g) ⌝ }
-    ensures { λ r. ⌜ r ≡ countAtMost (toBits binary32) bits (part parts row column (now (g .entry))) ⌝ }
+    ensures { λ r. ⌜ r ≡ countAtMost (toBits binary32) bits (part every parts row column (now (g .entry))) ⌝ }
 {
-    let rows = middle(row);
+    let rows = middle(row) / every;
     let columns = middle(column) / parts;
     let mut count: u32 = 0;
     for i in 0..rows {
-        let from = (row / 4 + i) * column + (column / 4 + 3 * i % parts * columns);
+        let from = (row / 4 + (every * i + 3 * i % every)) * column + (column / 4 + 5 * i % parts * columns);
         count = count + count_row(g, from, columns, bits);
     }
     count
@@ -125,6 +129,7 @@ fn upper(r: Range) -> Range
 
 // The bits of the clipped entry `rank` of a part of the sample, found by counting: no sort, no copy. The first count is at `start`.
 fn ranked_bits(
+    every: usize,
     parts: usize,
     row: usize,
     column: usize,
@@ -133,11 +138,11 @@ fn ranked_bits(
     start: u32,
     reach: u32,
 ) -> u32
-    requires { ⌜ (1 ≤ parts) × (row ≤ 4094) × (2 ≤ column) × (column ≤ 4094) × (length (now g) ≡ row * column) ⌝ }
+    requires { ⌜ (1 ≤ every) × (1 ≤ parts) × (row ≤ 4094) × (2 ≤ column) × (column ≤ 4094) × (length (now g) ≡ row * column) ⌝ }
     requires { ⌜ (0x3C23D70A ≤ start) × (start ≤ 0x3F800000) × (1 ≤ reach) × (reach ≤ 2 ^ 26) ⌝ }
     requires { ⌜ AllPlain (now g) ⌝ }
     ensures { λ r. ⌜ (0x3C23D70A ≤ r) × (r ≤ 0x3F800000) ⌝ }
-    ensures { λ r. ⌜ (rank < length (part parts row column (now (g .entry))) → ofBits binary32 r ≡ clip (entry (toBits binary32) nan (part parts row column (now (g .entry))) rank)) ⌝ }
+    ensures { λ r. ⌜ (rank < length (part every parts row column (now (g .entry))) → ofBits binary32 r ≡ clip (entry (toBits binary32) nan (part every parts row column (now (g .entry))) rank)) ⌝ }
 {
     let mut range = Range {
         lo: LEAST_BITS,
@@ -146,7 +151,7 @@ fn ranked_bits(
         reach: reach,
     };
     while range.lo < range.hi {
-        if rank < count_part(parts, row, column, g, range.mid) as u64 {
+        if rank < count_part(every, parts, row, column, g, range.mid) as u64 {
             range = lower(range);
         } else {
             range = upper(range);
@@ -159,8 +164,8 @@ fn ranked_bits(
 fn moved(rank: u64, of_part: u32, of_all: u32) -> u64
     requires { ⌜ rank ≤ 2 ^ 32 ⌝ }
 {
-    let sum = PARTS as u64 * of_part as u64 + rank;
-    if sum < of_all as u64 { 0 } else { (sum - of_all as u64) / PARTS as u64 }
+    let sum = SHARE * of_part as u64 + rank;
+    if sum < of_all as u64 { 0 } else { (sum - of_all as u64) / SHARE }
 }
 
 // Bits near the threshold's, from a part of the sample and one count of all of it. Only the time depends on how near they are.
@@ -169,10 +174,10 @@ fn guess(row: usize, column: usize, g: &[f32], rank: u64) -> u32
     requires { ⌜ AllPlain (now g) ⌝ }
     ensures { λ r. ⌜ (0x3C23D70A ≤ r) × (r ≤ 0x3F800000) ⌝ }
 {
-    let near = ranked_bits(PARTS, row, column, g, rank / PARTS as u64, LEAST_BITS, FAR);
-    let of_part = count_part(PARTS, row, column, g, near);
-    let of_all = count_part(1, row, column, g, near);
-    ranked_bits(PARTS, row, column, g, moved(rank, of_part, of_all), near, 1)
+    let near = ranked_bits(EVERY, PARTS, row, column, g, rank / SHARE, LEAST_BITS, FAR);
+    let of_part = count_part(EVERY, PARTS, row, column, g, near);
+    let of_all = count_part(1, 1, row, column, g, near);
+    ranked_bits(EVERY, PARTS, row, column, g, moved(rank, of_part, of_all), near, 1)
 }
 
 // The threshold. On a clean screen it is 0.01, and the second count finds that out.
@@ -183,7 +188,7 @@ fn threshold_of(row: usize, column: usize, g: &[f32]) -> f32
 {
     let rank = rank_of(middle(row) * middle(column));
     let near = guess(row, column, g, rank);
-    f32::from_bits(ranked_bits(1, row, column, g, rank, near, 1))
+    f32::from_bits(ranked_bits(1, 1, row, column, g, rank, near, 1))
 }
 
 // A byte for each gradient, 1 where it is at least the threshold.

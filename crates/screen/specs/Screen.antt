@@ -1,7 +1,21 @@
--- 01, "Screen program": what is printed of a located screen. rows is r, columns is c; the last two are the sides afterwards.
+-- 01, "Screen program": the values that are printed, from the bytes of the input alone.
+use Prim.Native.Nat.{ℕ, _*_}
+use mathlib.Core.Bool.{cond}
+use mathlib.Core.List.{List}
+use lib.Dec.{eqb}
+use lib.ListN.{length, drop}
+use Rattle.board.specs.Board.{fresh}
+use Rattle.board.specs.Screen.{packed}
+use Rattle.load.specs.Load.{ofByte, shown, loadAnswer}
 use Rattle.locate.specs.declared.Located.{Located}
+use Rattle.locate.specs.Locate.{found}
+use Rattle.screens.specs.declared.Input.{Input}
+use Rattle.screens.specs.declared.Input.the-variants.{Sides, Refused}
 use Rattle.screens.specs.declared.Values.{Values}
+use Rattle.screens.specs.Header.{headerOf}
+use Rattle.screens.specs.Text.{alone}
 
+-- what is printed of a located screen: rows is r, columns is c; the last two are the sides afterwards
 abbrev pub located : Located → Values
 located l =
     record {
@@ -20,3 +34,22 @@ located l =
       height = l .board .height;
       width = l .board .width;
     }
+
+-- what is printed of a screen with these sides and pixels: it is loaded, into planes of its size, and located; where loading refused, its
+-- answer alone
+unfoldable pub valuesOf : ℕ → ℕ → List ℕ → Values
+unfolding loadAnswer found
+valuesOf h w pixels =
+    let answer = loadAnswer h w (length pixels) (3 * (h * w)) in
+    cond (eqb answer 0) (located (found (fresh h w) (packed (shown ofByte h w pixels)))) (alone answer)
+
+-- what is printed where the first two lines say this: the pixels stand behind them, and a refusal is printed alone
+unfoldable pub valuesFor : List ℕ → Input → Values
+unfolding valuesOf
+valuesFor bytes (Sides h w at) = valuesOf h w (drop at bytes)
+valuesFor bytes (Refused n) = alone n
+
+-- what is printed for the bytes of the input
+unfoldable pub answerTo : List ℕ → Values
+unfolding headerOf valuesFor
+answerTo bytes = valuesFor bytes (headerOf bytes)

@@ -1,7 +1,13 @@
 // The screen program (01, "Screen program"): reads the sides and the pixels of a screen, loads it, locates the board and prints two lines.
-// What it reads and writes is in crate screens. It answers 11, 1, 2 and all of locating's.
+// What it reads and writes is in crate screens. It answers 11, 1, 2 and locating's. Definitions: specs/Screen.
 ghost use mathlib.Core.Path.{_≡_};
+ghost use Prim.Native.Nat.{_≤_};
+ghost use lib.ListN.{length};
+ghost use Rattle.io.specs.Counts.{Counts};
+ghost use Rattle.screens.specs.Header.{mostShown};
+ghost use Rattle.screens.specs.Text.{textOf, Written};
 ghost use Rattle.screen.specs.Screen as Spec;
+ghost use Rattle.screen.specs.Screen.{valuesOf, answerTo};
 use libc::STDIN_FILENO;
 use libc::STDOUT_FILENO;
 use locate::Located;
@@ -31,10 +37,14 @@ fn located(l: Located) -> Values
     }
 }
 
-// Loads and locates a screen of at most 64 by 64.
-fn values_of(height: usize, width: usize, pixels: &[u8]) -> Values {
+// Loads and locates a screen of at most 64 by 64. The planes lent are the screen's and no longer, so that the definition names no buffer.
+fn values_of(height: usize, width: usize, pixels: &[u8]) -> Values
+    requires { ⌜ (height ≤ mostShown) × (width ≤ mostShown) ⌝ }
+    ensures { λ r. ⌜ r ≡ valuesOf height width (now (pixels .entry)) ⌝ }
+{
     let mut planes: [f32; 12288] = [0.0; 12288];
-    let loaded = load::new(height, width, pixels, &mut planes);
+    let n = 3 * (height * width);
+    let loaded = load::new(height, width, pixels, &mut planes[..n]);
     if loaded.answer != 0 {
         return screens::alone(loaded.answer);
     }
@@ -46,7 +56,7 @@ fn values_of(height: usize, width: usize, pixels: &[u8]) -> Values {
     let mut words: [u32; 512] = [0; 512];
     located(locate::get_pos_pixel(
         b,
-        &mut planes,
+        &mut planes[..n],
         &mut edges,
         &mut scores,
         &mut floats,
@@ -55,19 +65,30 @@ fn values_of(height: usize, width: usize, pixels: &[u8]) -> Values {
     ))
 }
 
-fn answer_to(bytes: &[u8]) -> Values {
+// What is printed for the bytes of the input.
+fn answer_to(bytes: &[u8]) -> Values
+    ensures { λ r. ⌜ r ≡ answerTo (now (bytes .entry)) ⌝ }
+{
     match screens::header(bytes) {
         Input::Sides { height, width, at } => values_of(height, width, screens::pixels(bytes, at)),
         Input::Refused(n) => screens::alone(n),
     }
 }
 
+// Everything but the input and the output: writes the two lines to the front of `out`, and answers how many bytes they are.
+fn reply(bytes: &[u8], out: &mut [u8]) -> usize
+    requires { ⌜ 380 ≤ length (now out) ⌝ }
+    ensures { λ r. ⌜ Written (textOf (answerTo (now (bytes .entry)))) (now (out .entry)) r (now (out .exit)) ⌝ }
+    ensures { λ r. ⌜ Counts r (now (out .exit)) ⌝ }
+{
+    screens::write_lines(answer_to(bytes), out)
+}
+
 // 16,407 bytes hold the longest first two lines, 23 bytes, and 64 by 64 pixels. Whatever follows is not read.
 fn main() {
     let mut bytes: [u8; 16407] = [0; 16407];
     let n = io::read_full(STDIN_FILENO, &mut bytes);
-    let values = answer_to(&bytes[..n]);
     let mut text: [u8; 380] = [0; 380];
-    let count = screens::write_lines(values, &mut text);
+    let count = reply(&bytes[..n], &mut text);
     io::write_all(STDOUT_FILENO, &text[..count]);
 }

@@ -12,10 +12,10 @@ use Rattle.edges.proofs.ranked_bits.Statement.{statement}
 use Rattle.edges.proofs.ranked_bits.Tie as tie
 
 abbrev Inv-loop : tie.InvT-loop
-Inv-loop parts row column g rank start reach range₀ range = Around (part parts row column g) rank (range .lo) (range .hi) × Placed range
+Inv-loop every parts row column g rank start reach range₀ range = Around (part every parts row column g) rank (range .lo) (range .hi) × Placed range
 
 abbrev μ-loop : tie.MeasureT-loop
-μ-loop parts row column g rank start reach range₀ range = range .hi - range .lo
+μ-loop every parts row column g rank start reach range₀ range = range .hi - range .lo
 
 sub-smaller : tie.Need-sub-smaller Inv-loop μ-loop
 sub-smaller c = search needs
@@ -33,7 +33,7 @@ count-part-requires : tie.Need-count-part-requires Inv-loop μ-loop
 count-part-requires c κs =
     let p = c .before .before .before .before .before .pre in
     let at = c .before .before .loop in
-    ((p .0 .0, p .0 .1, p .0 .3, p .0 .4, omega (arith, at .inv .0 .ceiling, at .inv .1 .1)), p .1 .1)
+    ((p .0 .0, p .0 .1, p .0 .2, p .0 .4, p .0 .5, omega (arith, at .inv .0 .ceiling, at .inv .1 .1)), p .1 .1)
 
 cast-if2 : tie.Need-cast-if2 Inv-loop μ-loop
 cast-if2 c = search needs
@@ -73,9 +73,9 @@ returns c =
     let s = c .before .before .before .before .before in
     let a = s .args in
     let i = c .before .before .loop .inv .0 in
-    let plain = part-plain (a .parts) (a .row) (a .column) (now (a .g)) (s .pre .0 .0) (s .pre .0 .4) (c .before .before .before .before .shared-slice-known .given) (s .pre .1 .1) in
+    let plain = part-plain (a .every) (a .parts) (a .row) (a .column) (now (a .g)) (s .pre .0 .0) (s .pre .0 .1) (s .pre .0 .5) (c .before .before .before .before .shared-slice-known .given) (s .pre .1 .1) in
     ((i .floor, omega (arith, i .some, i .ceiling)),
-    λ h. ap (ofBits binary32) (omega (arith, i .low h, i .high h, c .if1 .left)) ∙ sym (clipped-is (part (a .parts) (a .row) (a .column) (now (a .g))) (a .rank) h plain))
+    λ h. ap (ofBits binary32) (omega (arith, i .low h, i .high h, c .if1 .left)) ∙ sym (clipped-is (part (a .every) (a .parts) (a .row) (a .column) (now (a .g))) (a .rank) h plain))
 
 pub ranked-bits-spec : {M : Type 1} → statement M
 ranked-bits-spec =

@@ -6,7 +6,7 @@ use denote.Ref.{now}
 use lib.ListN.{length}
 use Rattle.binary32.proofs.Plain.{bits-number}
 use Rattle.edges.specs.Edges.{part}
-use Rattle.edges.proofs.Sample.{width, length-part, size-in, rank-below}
+use Rattle.edges.proofs.Sample.{taken, length-part, size-in, rank-below}
 use Rattle.edges.proofs.Threshold.{threshold-is}
 use borrow.Author.Needs.{needs}
 use Rattle.edges.proofs.threshold_of.Statement.{statement}
@@ -51,9 +51,10 @@ returns : tie.Need-returns
 returns c =
     let r = c .before .before in
     let a = r .before .before .before .before .args in
-    let one : width 1 (a .column) ≡ r .before .middle2 .result = omega (arith, r .before .middle2 .ensures) in
-    let m : r .before .before .middle .result * r .before .middle2 .result ≡ length (part 1 (a .row) (a .column) (now (a .g))) =
-    rw (sym one, r .before .before .middle .ensures) (sym (length-part 1 (a .row) (a .column) (now (a .g)))) in
+    let d : taken 1 (a .row) ≡ r .before .before .middle .result = omega (arith, r .before .before .middle .ensures) in
+    let e : taken 1 (a .column) ≡ r .before .middle2 .result = omega (arith, r .before .middle2 .ensures) in
+    let m : r .before .before .middle .result * r .before .middle2 .result ≡ length (part 1 1 (a .row) (a .column) (now (a .g))) =
+    rw (sym d, sym e) (sym (length-part 1 1 (a .row) (a .column) (now (a .g)))) in
     c .ranked-bits .ensures .1 (rw (sym m) (rank r)) ∙ sym (threshold-is (a .row) (a .column) (now (a .g)) (r .rank-of .result) (rw (sym m) (r .rank-of .ensures)))
 
 pub threshold-of-spec : {M : Type 1} → statement M

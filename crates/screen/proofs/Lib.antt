@@ -1,0 +1,3 @@
+pub mod Units
+pub mod Printed
+pub mod Sides
