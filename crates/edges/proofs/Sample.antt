@@ -20,6 +20,10 @@ use Rattle.rank.specs.Rank.{countAtMost}
 use Rattle.rank.proofs.Counts.{count-append, count-le}
 use Rattle.edges.specs.Edges.{sample, rankOf, AllPlain, part}
 
+-- every value of l is such
+abbrev pub AllAre : (Float → Type 0) → List Float → Type 0
+AllAre P l = (k : ℕ) → k < length l → P (getD l k nan)
+
 -- how many rows a part has, or columns of each: one in s of the middle half of the side
 abbrev pub taken : ℕ → ℕ → ℕ
 taken s side = (3 * side / 4 - side / 4) / s
@@ -59,7 +63,7 @@ some-wide rows (suc n) h = omega arith
 
 -- every value of a part is one of the gradients
 pub part-plain : (s p row column : ℕ) (g : List Float) → 1 ≤ s → 1 ≤ p → length g ≡ row * column → ((k : ℕ) → T (fits binary32 (getD g k nan)))
-    → AllPlain g → (k : ℕ) → k < length (part s p row column g) → Plain (getD (part s p row column g) k nan)
+    → AllPlain g → AllAre Plain (part s p row column g)
 part-plain s p row column g y o e f q k h =
     let rows = taken s row in
     let n = taken p column in
@@ -84,6 +88,13 @@ part-all row column g =
     let y : 1 * (k / n) + 3 * (k / n) % 1 ≡ k / n = omega arith in
     let z : 5 * (k / n) % 1 ≡ 0 = omega arith in
     ap (λ (p : ℕ). getD g p nan) (rw (y, z) (omega (arith, zero-mul n)))))
+
+pub length-sample : (row column : ℕ) (g : List Float) → length (sample row column g) ≡ (3 * row / 4 - row / 4) * (3 * column / 4 - column / 4)
+length-sample row column g = length-tabFrom 0 ((3 * row / 4 - row / 4) * (3 * column / 4 - column / 4)) _
+
+pub sample-plain : (row column : ℕ) (g : List Float) → length g ≡ row * column → ((k : ℕ) → T (fits binary32 (getD g k nan))) → AllPlain g
+    → AllAre Plain (sample row column g)
+sample-plain row column g e f q = rw (sym (part-all row column g)) (part-plain 1 1 row column g (omega arith) (omega arith) e f q)
 
 -- ---- the rank
 

@@ -1,20 +1,21 @@
 -- The threshold by its bits: the clipped bits of the ranked entry, and halving their range by counting. Assumes nothing.
-use Prim.Native.Nat.{ℕ, _+_, _*_, _^_, _≤_, _<_, max, min}
+use Prim.Native.Nat.{ℕ, _-_, _<_, max, min}
 use mathlib.Core.Path.{_≡_, refl, sym, ap, _∙_}
 use mathlib.Core.Bool.{Bool, true, false, cond}
 use mathlib.Core.List.{List}
 use native.Mathlib.Omega.{arith}
 use borrow.Author.Tests.{ltb-true, ltb-false}
-use lib.Dec.{T, ltb}
-use lib.Ieee.{Float, nan, binary32, fits, toBits, ofBits}
+use lib.Dec.{ltb}
+use lib.Ieee.{Float, nan, binary32, toBits, ofBits}
 use lib.Ieee.Bits.{ofBits-toBits}
 use lib.ListN.{length, getD}
-use Rattle.binary32.proofs.Plain.{Plain, above-bits, below-bits}
+use Rattle.binary32.proofs.Plain.{Plain, bits-back, above-bits, below-bits}
 use Rattle.rank.specs.Rank.{entry, countAtMost}
 use Rattle.rank.proofs.Entry.{at-least, at-most}
 use Rattle.rank.proofs.Members.{entry-has}
-use Rattle.edges.specs.Edges.{sample, clip, rankOf, threshold, part}
-use Rattle.edges.proofs.Sample.{part-all}
+use Rattle.edges.specs.Edges.{sample, clip, rankOf, threshold, sought, Placed, Halved, Holds}
+use Rattle.edges.specs.declared.Range.{Range}
+use Rattle.edges.proofs.Sample.{AllAre}
 
 -- the bits of the threshold where the entry has the bits b
 abbrev pub clipped : ℕ → ℕ
@@ -34,51 +35,84 @@ clip-bits x p =
         sym (ofBits-toBits binary32 x (p .held))
         ∙ ap (ofBits binary32) (omega (arith, ltb-false 0x3F800000 (toBits binary32 x) e, ltb-false (toBits binary32 x) 0x3C23D70A d))
 
--- the bits of entry `rank`
-abbrev pub ranked : List Float → ℕ → ℕ
-ranked l rank = toBits binary32 (entry (toBits binary32) nan l rank)
+-- the bits sought among plain values, by those of the entry
+sought-is : (l : List Float) (rank : ℕ) → rank < length l → AllAre Plain l → sought l rank ≡ clipped (toBits binary32 (entry (toBits binary32) nan l rank))
+sought-is l rank h p =
+    let b = toBits binary32 (entry (toBits binary32) nan l rank) in
+    ap (toBits binary32) (clip-bits _ (entry-has (toBits binary32) nan Plain l rank h p)) ∙ bits-back (clipped b) (omega arith)
 
--- the clipped entry of plain values by its bits
-pub clipped-is : (l : List Float) (rank : ℕ) → rank < length l → ((k : ℕ) → k < length l → Plain (getD l k nan))
-    → clip (entry (toBits binary32) nan l rank) ≡ ofBits binary32 (clipped (ranked l rank))
-clipped-is l rank h p = clip-bits _ (entry-has (toBits binary32) nan Plain l rank h p)
+-- bits sought are those of a value
+pub sought-value : (l : List Float) (rank : ℕ) → rank < length l → AllAre Plain l
+    → ofBits binary32 (sought l rank) ≡ clip (entry (toBits binary32) nan l rank)
+sought-value l rank h p =
+    let e = clip-bits _ (entry-has (toBits binary32) nan Plain l rank h p) in
+    ap (ofBits binary32) (sought-is l rank h p) ∙ sym e
 
-pub threshold-is : (row column : ℕ) (g : List Float) (rank : ℕ) → rank ≡ rankOf (length (part 1 1 row column g))
-    → threshold row column g ≡ clip (entry (toBits binary32) nan (part 1 1 row column g) rank)
+pub threshold-is : (row column : ℕ) (g : List Float) (rank : ℕ) → rank ≡ rankOf (length (sample row column g))
+    → threshold row column g ≡ clip (entry (toBits binary32) nan (sample row column g) rank)
 unfolding threshold
-threshold-is row column g rank e = rw (e, part-all row column g)
+threshold-is row column g rank e = rw e
 
 -- ---- halving
 
--- the bits of the clipped entry lie in lo to hi, within the limits
-pub record Around (l : List Float) (rank lo hi : ℕ) : Type 0 where
-  pub floor : 0x3C23D70A ≤ lo
-  pub ceiling : hi ≤ 0x3F800000
-  pub some : lo ≤ hi
-  pub low : rank < length l → lo ≤ clipped (ranked l rank)
-  pub high : rank < length l → clipped (ranked l rank) ≤ hi
-
-pub around-all : {l : List Float} {rank : ℕ} → Around l rank 0x3C23D70A 0x3F800000
-around-all = record { floor = omega arith; ceiling = omega arith; some = omega arith; low = λ h. omega arith; high = λ h. omega arith }
-
-pub around-left : {l : List Float} {rank lo hi : ℕ} (mid : ℕ) → Around l rank lo hi → lo ≤ mid → mid ≤ hi
-    → rank < countAtMost (toBits binary32) mid l → Around l rank lo mid
-around-left {l} {rank} mid a m h c =
+-- all bits that the threshold may have hold those sought
+pub holds-all : (l : List Float) (rank : ℕ) (r : Range) → AllAre Plain l → r .lo ≡ 0x3C23D70A → r .hi ≡ 0x3F800000 → Holds l rank r
+holds-all l rank r p d e =
     record {
-      floor = a .floor;
-      ceiling = omega (arith, a .ceiling);
-      some = m;
-      low = a .low;
-      high = λ r. omega (arith, a .floor, at-least (toBits binary32) nan mid l rank r c);
+      floor = omega arith;
+      ceiling = omega arith;
+      low = λ h. omega (arith, sought-is l rank h p);
+      high = λ h. omega (arith, sought-is l rank h p);
     }
 
-pub around-right : {l : List Float} {rank lo hi : ℕ} (mid : ℕ) → Around l rank lo hi → lo ≤ mid → mid < hi
-    → countAtMost (toBits binary32) mid l ≤ rank → Around l rank (mid + 1) hi
-around-right {l} {rank} mid a m h c =
+-- where the range is the same, what it holds is
+pub holds-same : {l : List Float} {rank : ℕ} {r s : Range} → Holds l rank r → s .lo ≡ r .lo → s .hi ≡ r .hi → Holds l rank s
+holds-same h d e =
     record {
-      floor = omega (arith, a .floor);
-      ceiling = a .ceiling;
-      some = omega arith;
-      low = λ r. omega (arith, a .ceiling, at-most (toBits binary32) nan mid l rank r c);
-      high = a .high;
+      floor = omega (arith, h .floor);
+      ceiling = omega (arith, h .ceiling);
+      low = λ k. omega (arith, h .low k);
+      high = λ k. omega (arith, h .high k);
     }
+
+-- the half that is taken holds the bits still, and is smaller
+pub holds-half : {l : List Float} {rank count : ℕ} {r s : Range} → AllAre Plain l → Holds l rank r → Placed r → r .lo < r .hi
+    → count ≡ countAtMost (toBits binary32) (r .mid) l → Halved r rank count s → Holds l rank s × (s .hi - s .lo < r .hi - r .lo)
+holds-half {l} {rank} {count} {r} {s} p h m t e c = at (ltb rank count) refl
+  where
+    mid-in : r .mid < r .hi
+    mid-in = m .2 t
+
+    at : (b : Bool) → ltb rank count ≡ b → Holds l rank s × (s .hi - s .lo < r .hi - r .lo)
+    at true q =
+        let k = c .lower (ltb-true rank count q) in (
+          record {
+            floor = omega (arith, h .floor, k);
+            ceiling = omega (arith, h .ceiling, m .1, k);
+            low = λ j. omega (arith, h .low j, k);
+            high = λ j.
+                omega (
+                  arith,
+                  k,
+                  m .0,
+                  h .floor,
+                  h .ceiling,
+                  mid-in,
+                  sought-is l rank j p,
+                  at-least (toBits binary32) nan (r .mid) l rank j (omega (arith, ltb-true rank count q)),
+                );
+          },
+          omega (arith, k, m .0, mid-in),
+        )
+    at false q =
+        let k = c .upper (ltb-false rank count q) in (
+          record {
+            floor = omega (arith, h .floor, k, m .0);
+            ceiling = omega (arith, h .ceiling, k);
+            low = λ j.
+                omega
+                (arith, k, h .ceiling, mid-in, sought-is l rank j p, at-most (toBits binary32) nan (r .mid) l rank j (omega (arith, ltb-false rank count q)));
+            high = λ j. omega (arith, h .high j, k);
+          },
+          omega (arith, k, m .0, mid-in),
+        )

@@ -1,5 +1,6 @@
 -- 01, "Gradient and threshold", second paragraph. g is the list of gradients, `row` rows of `column` each.
 use Prim.Native.Nat.{ℕ, _+_, _-_, _*_, _/_, _%_, _^_, _≤_, _<_}
+use mathlib.Core.Path.{_≡_}
 use mathlib.Core.Bool.{cond}
 use mathlib.Core.List.{List}
 use lib.IntN.{pos}
@@ -52,6 +53,22 @@ part s p row column g =
     n
     (λ i j. getD g ((row / 4 + (s * i + 3 * i % s)) * column + (column / 4 + 5 * i % p * n) + j) nan)
 
+-- the bits of the clipped entry `rank`
+abbrev pub sought : List Float → ℕ → ℕ
+sought l rank = toBits binary32 (clip (entry (toBits binary32) nan l rank))
+
 -- mid lies in the range, before its end
 abbrev pub Placed : Range → Type 0
 Placed r = (r .lo ≤ r .mid) × (r .mid ≤ r .hi) × (r .lo < r .hi → r .mid < r .hi) × (1 ≤ r .reach) × (r .reach ≤ 2 ^ 26)
+
+-- up to mid where more than `rank` values are at most mid, else above it
+pub record Halved (r : Range) (rank count : ℕ) (s : Range) : Type 0 where
+  pub lower : rank < count → (s .lo ≡ r .lo) × (s .hi ≡ r .mid)
+  pub upper : count ≤ rank → (s .lo ≡ r .mid + 1) × (s .hi ≡ r .hi)
+
+-- the range lies within the limits and holds the bits sought, if there is such an entry
+pub record Holds (l : List Float) (rank : ℕ) (r : Range) : Type 0 where
+  pub floor : 0x3C23D70A ≤ r .lo
+  pub ceiling : r .hi ≤ 0x3F800000
+  pub low : rank < length l → r .lo ≤ sought l rank
+  pub high : rank < length l → sought l rank ≤ r .hi

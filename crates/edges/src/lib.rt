@@ -2,13 +2,13 @@
 // Definitions: specs/Edges. Laws for callers: proofs/Laws.
 ghost use mathlib.Core.Path.{_≡_};
 ghost use mathlib.Core.List.{_++_};
-ghost use Prim.Native.Nat.{ℕ, _+_, _-_, _*_, _/_, _^_, _≤_, _<_, min};
-ghost use lib.Ieee.{nan, binary32, le, toBits, ofBits};
+ghost use Prim.Native.Nat.{_+_, _-_, _*_, _/_, _^_, _≤_, _<_, min};
+ghost use lib.Ieee.{nan, binary32, le, toBits};
 ghost use lib.ListN.{length, getD, drop};
 ghost use Rattle.lists.specs.Tab.{tab};
 ghost use Rattle.lists.specs.Picture.{bit};
-ghost use Rattle.rank.specs.Rank.{entry, countAtMost};
-ghost use Rattle.edges.specs.Edges.{rankOf, clip, threshold, marks, AllPlain, part, Placed};
+ghost use Rattle.rank.specs.Rank.{countAtMost};
+ghost use Rattle.edges.specs.Edges.{sample, rankOf, threshold, marks, AllPlain, part, sought, Placed, Halved, Holds};
 
 // The bits of 0.01 and of 1.0, the limits of the threshold.
 const LEAST_BITS: u32 = 0x3C23D70A;
@@ -72,13 +72,14 @@ fn count_part(every: usize, parts: usize, row: usize, column: usize, g: &[f32], 
     let columns = middle(column) / parts;
     let mut count: u32 = 0;
     for i in 0..rows {
-        let from = (row / 4 + (every * i + 3 * i % every)) * column + (column / 4 + 5 * i % parts * columns);
+        let from = (row / 4 + (every * i + 3 * i % every)) * column
+            + (column / 4 + 5 * i % parts * columns);
         count = count + count_row(g, from, columns, bits);
     }
     count
 }
 
-// A range that holds the bits looked for, where to count next, and how far from there the count after it may lie.
+// A range that holds the bits sought, where to count next, and how far from there the count after it may lie.
 struct Range {
     lo: u32,
     hi: u32,
@@ -92,7 +93,7 @@ fn smaller(a: u32, b: u32) -> u32
     if a < b { a } else { b }
 }
 
-// The next reach: it grows until the halves are smaller.
+// The next reach: it grows until only the halving is left.
 fn wider(reach: u32) -> u32
     requires { ⌜ (1 ≤ reach) × (reach ≤ 2 ^ 26) ⌝ }
     ensures { λ r. ⌜ (1 ≤ r) × (r ≤ 2 ^ 26) ⌝ }
@@ -127,7 +128,53 @@ fn upper(r: Range) -> Range
     }
 }
 
-// The bits of the clipped entry `rank` of a part of the sample, found by counting: no sort, no copy. The first count is at `start`.
+// The half of the range that holds the bits of entry `rank`, where `count` values are at most mid.
+fn halved(r: Range, rank: u64, count: u32) -> Range
+    requires { ⌜ Placed r × (r .lo < r .hi) ⌝ }
+    ensures { λ s. ⌜ Placed s × Halved r rank count s ⌝ }
+{
+    if rank < count as u64 {
+        lower(r)
+    } else {
+        upper(r)
+    }
+}
+
+// The same range, the next count as near to `at` as it allows.
+fn aimed(r: Range, at: u32) -> Range
+    requires { ⌜ Placed r ⌝ }
+    ensures { λ s. ⌜ Placed s × (s .lo ≡ r .lo) × (s .hi ≡ r .hi) ⌝ }
+{
+    let mid = if at < r.lo {
+        r.lo
+    } else {
+        smaller(at, r.hi - smaller(1, r.hi - r.lo))
+    };
+    Range {
+        lo: r.lo,
+        hi: r.hi,
+        mid: mid,
+        reach: r.reach,
+    }
+}
+
+// All bits that the threshold may have.
+fn everywhere(at: u32, reach: u32) -> Range
+    requires { ⌜ (1 ≤ reach) × (reach ≤ 2 ^ 26) ⌝ }
+    ensures { λ r. ⌜ Placed r × (r .lo ≡ 0x3C23D70A) × (r .hi ≡ 0x3F800000) ⌝ }
+{
+    aimed(
+        Range {
+            lo: LEAST_BITS,
+            hi: MOST_BITS,
+            mid: LEAST_BITS,
+            reach: reach,
+        },
+        at,
+    )
+}
+
+// The bits of the clipped entry `rank` of a part of the sample, found by counting: no sort, no copy.
 fn ranked_bits(
     every: usize,
     parts: usize,
@@ -135,27 +182,18 @@ fn ranked_bits(
     column: usize,
     g: &[f32],
     rank: u64,
-    start: u32,
-    reach: u32,
+    from: Range,
 ) -> u32
-    requires { ⌜ (1 ≤ every) × (1 ≤ parts) × (row ≤ 4094) × (2 ≤ column) × (column ≤ 4094) × (length (now g) ≡ row * column) ⌝ }
-    requires { ⌜ (0x3C23D70A ≤ start) × (start ≤ 0x3F800000) × (1 ≤ reach) × (reach ≤ 2 ^ 26) ⌝ }
+    requires { ⌜ (1 ≤ every) × (1 ≤ parts) × (row ≤ 4094) × (column ≤ 4094) × (length (now g) ≡ row * column) ⌝ }
     requires { ⌜ AllPlain (now g) ⌝ }
-    ensures { λ r. ⌜ (0x3C23D70A ≤ r) × (r ≤ 0x3F800000) ⌝ }
-    ensures { λ r. ⌜ (rank < length (part every parts row column (now (g .entry))) → ofBits binary32 r ≡ clip (entry (toBits binary32) nan (part every parts row column (now (g .entry))) rank)) ⌝ }
+    requires { ⌜ Placed from × Holds (part every parts row column (now g)) rank from ⌝ }
+    ensures { λ r. ⌜ (rank < length (part every parts row column (now (g .entry))) → r ≡ sought (part every parts row column (now (g .entry))) rank) ⌝ }
+    ensures { λ r. ⌜ r ≤ 0x3F800000 ⌝ }
 {
-    let mut range = Range {
-        lo: LEAST_BITS,
-        hi: MOST_BITS,
-        mid: smaller(start, MOST_BITS - 1),
-        reach: reach,
-    };
+    let mut range = from;
     while range.lo < range.hi {
-        if rank < count_part(every, parts, row, column, g, range.mid) as u64 {
-            range = lower(range);
-        } else {
-            range = upper(range);
-        }
+        let count = count_part(every, parts, row, column, g, range.mid);
+        range = halved(range, rank, count);
     }
     range.lo
 }
@@ -165,30 +203,49 @@ fn moved(rank: u64, of_part: u32, of_all: u32) -> u64
     requires { ⌜ rank ≤ 2 ^ 32 ⌝ }
 {
     let sum = SHARE * of_part as u64 + rank;
-    if sum < of_all as u64 { 0 } else { (sum - of_all as u64) / SHARE }
+    if sum < of_all as u64 {
+        0
+    } else {
+        (sum - of_all as u64) / SHARE
+    }
 }
 
-// Bits near the threshold's, from a part of the sample and one count of all of it. Only the time depends on how near they are.
-fn guess(row: usize, column: usize, g: &[f32], rank: u64) -> u32
-    requires { ⌜ (row ≤ 4094) × (2 ≤ column) × (column ≤ 4094) × (length (now g) ≡ row * column) × (rank ≤ 2 ^ 32) ⌝ }
+// The bits of entry `rank` of the part that guesses are made from. Only the time depends on them.
+fn guess(row: usize, column: usize, g: &[f32], rank: u64, from: Range) -> u32
+    requires { ⌜ (row ≤ 4094) × (column ≤ 4094) × (length (now g) ≡ row * column) ⌝ }
     requires { ⌜ AllPlain (now g) ⌝ }
-    ensures { λ r. ⌜ (0x3C23D70A ≤ r) × (r ≤ 0x3F800000) ⌝ }
+    requires { ⌜ Placed from × (from .lo ≡ 0x3C23D70A) × (from .hi ≡ 0x3F800000) ⌝ }
+    ensures { λ r. ⌜ r ≤ 0x3F800000 ⌝ }
 {
-    let near = ranked_bits(EVERY, PARTS, row, column, g, rank / SHARE, LEAST_BITS, FAR);
-    let of_part = count_part(EVERY, PARTS, row, column, g, near);
-    let of_all = count_part(1, 1, row, column, g, near);
-    ranked_bits(EVERY, PARTS, row, column, g, moved(rank, of_part, of_all), near, 1)
+    ranked_bits(EVERY, PARTS, row, column, g, rank, from)
 }
 
-// The threshold. On a clean screen it is 0.01, and the second count finds that out.
+// The bits of the threshold. A guess from a part is counted in all of the sample, which on a clean screen ends the search; the count also
+// tells by how much the rank in the part is to be moved for the second guess.
+fn threshold_bits(row: usize, column: usize, g: &[f32], rank: u64) -> u32
+    requires { ⌜ (row ≤ 4094) × (column ≤ 4094) × (length (now g) ≡ row * column) × (rank ≤ 2 ^ 32) ⌝ }
+    requires { ⌜ AllPlain (now g) ⌝ }
+    ensures { λ r. ⌜ (rank < length (sample row column (now (g .entry))) → r ≡ sought (sample row column (now (g .entry))) rank) ⌝ }
+    ensures { λ r. ⌜ r ≤ 0x3F800000 ⌝ }
+{
+    let first = everywhere(
+        guess(row, column, g, rank / SHARE, everywhere(LEAST_BITS, FAR)),
+        1,
+    );
+    let of_all = count_part(1, 1, row, column, g, first.mid);
+    let of_part = count_part(EVERY, PARTS, row, column, g, first.mid);
+    let second = guess(row, column, g, moved(rank, of_part, of_all), first);
+    let range = aimed(halved(first, rank, of_all), second);
+    ranked_bits(1, 1, row, column, g, rank, range)
+}
+
 fn threshold_of(row: usize, column: usize, g: &[f32]) -> f32
     requires { ⌜ (2 ≤ row) × (row ≤ 4094) × (2 ≤ column) × (column ≤ 4094) × (length (now g) ≡ row * column) ⌝ }
     requires { ⌜ AllPlain (now g) ⌝ }
     ensures { λ r. ⌜ r ≡ threshold row column (now (g .entry)) ⌝ }
 {
     let rank = rank_of(middle(row) * middle(column));
-    let near = guess(row, column, g, rank);
-    f32::from_bits(ranked_bits(1, 1, row, column, g, rank, near, 1))
+    f32::from_bits(threshold_bits(row, column, g, rank))
 }
 
 // A byte for each gradient, 1 where it is at least the threshold.

@@ -5,7 +5,7 @@ use native.Mathlib.Nat.{zero-mul, mul-le-mul, div-le-self}
 use native.Mathlib.Omega.{arith}
 use denote.Ref.{now}
 use Rattle.lists.proofs.Grid.{cell}
-use Rattle.edges.proofs.Sample.{taken, start, partAt, within, row-in, Counted, counted-none, counted-row}
+use Rattle.edges.proofs.Sample.{taken, partAt, within, row-in, Counted, counted-none, counted-row}
 use borrow.Author.Needs.{needs}
 use Rattle.edges.proofs.count_part.Statement.{statement}
 use Rattle.edges.proofs.count_part.Tie as tie
@@ -34,9 +34,14 @@ loop-holds : tie.Need-loop-holds Inv-loop μ-loop
 loop-holds c =
     let a = c .before .before .before .args in
     let d : c .before .middle .result / a .every ≡ taken (a .every) (a .row) = rw (c .before .middle .ensures) refl in
-    let e : c .middle2 .result / a .parts ≡ taken (a .parts) (a .column) = rw (c .middle2 .ensures) refl in
-    (omega arith, d, e, omega (arith, div-le-self (c .before .middle .result) (a .every), c .before .middle .ensures),
-    omega (arith, div-le-self (c .middle2 .result) (a .parts), c .middle2 .ensures), rw zero-mul counted-none)
+    let e : c .middle2 .result / a .parts ≡ taken (a .parts) (a .column) = rw (c .middle2 .ensures) refl in (
+      omega arith,
+      d,
+      e,
+      omega (arith, div-le-self (c .before .middle .result) (a .every), c .before .middle .ensures),
+      omega (arith, div-le-self (c .middle2 .result) (a .parts), c .middle2 .ensures),
+      rw zero-mul counted-none,
+    )
 
 -- the row of a turn is one of the sample
 inside : (c : tie.In-loop Inv-loop μ-loop)

@@ -1,5 +1,5 @@
 -- `edges::lower` meets its contract: what is taken from mid is at least 1 where mid is not lo, and at most half of what lies between.
-use Prim.Native.Nat.{_<_}
+
 use native.Mathlib.Omega.{arith}
 use borrow.Author.Needs.{needs}
 use Rattle.edges.proofs.lower.Statement.{statement}

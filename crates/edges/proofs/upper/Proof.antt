@@ -1,5 +1,5 @@
 -- `edges::upper` meets its contract: what is added is at most half of what lies between.
-use Prim.Native.Nat.{_<_}
+
 use mathlib.Core.Path.{refl}
 use native.Mathlib.Omega.{arith}
 use borrow.Author.Needs.{needs}
