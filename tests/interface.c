@@ -117,13 +117,22 @@ int kept(lent_floats lent, size_t written)
     return same;
 }
 
+/* The parts, each with what it calls on a stack of its own, of which it takes less than 256 KB. */
+static const struct {
+    const char *name;
+    void (*run)(void);
+} parts[] = {
+    {"load", test_load},           {"gradient", test_gradient}, {"locate", test_locate},
+    {"read_line", test_read_line}, {"sample", test_sample},
+};
+
 int main(void)
 {
-    test_load();
-    test_gradient();
-    test_locate();
-    test_read_line();
-    test_sample();
+    for (size_t at = 0; at < COUNT(parts); at++) {
+        size_t used = stack_used(parts[at].run);
+        check(used < 256 * 1024, parts[at].name, "stack");
+        printf("interface: %s takes %zu bytes of stack\n", parts[at].name, used);
+    }
     printf("interface: %lu checks\n", checks);
     if (failures > 0)
         fprintf(stderr, "interface: %lu failed\n", failures);

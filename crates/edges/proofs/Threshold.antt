@@ -8,7 +8,7 @@ use borrow.Author.Tests.{ltb-true, ltb-false}
 use lib.Dec.{ltb}
 use lib.Ieee.{Float, nan, binary32, toBits, ofBits}
 use lib.Ieee.Bits.{ofBits-toBits}
-use lib.ListN.{length, getD}
+use lib.ListN.{length}
 use Rattle.binary32.proofs.Plain.{Plain, bits-back, above-bits, below-bits}
 use Rattle.rank.specs.Rank.{entry, countAtMost}
 use Rattle.rank.proofs.Entry.{at-least, at-most}
