@@ -18,7 +18,8 @@ use Rattle.binary32.proofs.Plain.{Plain, bits-plain, at-most-bits}
 use Rattle.binary32.proofs.Share.{share-below}
 use Rattle.rank.specs.Rank.{countAtMost}
 use Rattle.rank.proofs.Counts.{count-append, count-le}
-use Rattle.edges.specs.Edges.{sample, rankOf, AllPlain, part}
+use Rattle.edges.specs.Edges.{sample, rankOf, AllPlain}
+use Rattle.edges.specs.Search.{part}
 
 -- every value of l is such
 abbrev pub AllAre : (Float → Type 0) → List Float → Type 0

@@ -13,7 +13,8 @@ use Rattle.binary32.proofs.Plain.{Plain, bits-back, above-bits, below-bits}
 use Rattle.rank.specs.Rank.{entry, countAtMost}
 use Rattle.rank.proofs.Entry.{at-least, at-most}
 use Rattle.rank.proofs.Members.{entry-has}
-use Rattle.edges.specs.Edges.{sample, clip, rankOf, threshold, sought, Placed, Halved, Holds}
+use Rattle.edges.specs.Edges.{sample, clip, rankOf, threshold}
+use Rattle.edges.specs.Search.{sought, Placed, Halved, Holds}
 use Rattle.edges.specs.declared.Range.{Range}
 use Rattle.edges.proofs.Sample.{AllAre}
 

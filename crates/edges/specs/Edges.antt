@@ -1,6 +1,5 @@
 -- 01, "Gradient and threshold", second paragraph. g is the list of gradients, `row` rows of `column` each.
-use Prim.Native.Nat.{ℕ, _+_, _-_, _*_, _/_, _%_, _^_, _≤_, _<_}
-use mathlib.Core.Path.{_≡_}
+use Prim.Native.Nat.{ℕ, _+_, _-_, _*_, _/_, _≤_, _<_}
 use mathlib.Core.Bool.{cond}
 use mathlib.Core.List.{List}
 use lib.IntN.{pos}
@@ -11,7 +10,6 @@ use Rattle.lists.specs.Picture.{bit}
 use Rattle.binary32.specs.Binary32.{trunc}
 use Rattle.rank.specs.Rank.{entry}
 use Rattle.gradient.specs.Gradient.{gradients}
-use Rattle.edges.specs.declared.Range.{Range}
 
 -- the gradients of the middle half, rows first
 abbrev pub sample : ℕ → ℕ → List Float → List Float
@@ -43,32 +41,3 @@ edges h w planes = marks (threshold (h - 2) (w - 2) (gradients h w planes)) ((h 
 -- every value has bits of at most infinity's: none is below 0.0, -0.0 or no number
 abbrev pub AllPlain : List Float → Type 0
 AllPlain g = (k : ℕ) → k < length g → toBits binary32 (getD g k nan) ≤ 0x7F800000
-
--- a part of the sample: one row in s, and of it one p-th of its columns, another one from row to row. With 1 and 1 it is the sample.
-abbrev pub part : ℕ → ℕ → ℕ → ℕ → List Float → List Float
-part s p row column g =
-    let n = (3 * column / 4 - column / 4) / p in
-    grid
-    ((3 * row / 4 - row / 4) / s)
-    n
-    (λ i j. getD g ((row / 4 + (s * i + 3 * i % s)) * column + (column / 4 + 5 * i % p * n) + j) nan)
-
--- the bits of the clipped entry `rank`
-abbrev pub sought : List Float → ℕ → ℕ
-sought l rank = toBits binary32 (clip (entry (toBits binary32) nan l rank))
-
--- mid lies in the range, before its end
-abbrev pub Placed : Range → Type 0
-Placed r = (r .lo ≤ r .mid) × (r .mid ≤ r .hi) × (r .lo < r .hi → r .mid < r .hi) × (1 ≤ r .reach) × (r .reach ≤ 2 ^ 26)
-
--- up to mid where more than `rank` values are at most mid, else above it
-pub record Halved (r : Range) (rank count : ℕ) (s : Range) : Type 0 where
-  pub lower : rank < count → (s .lo ≡ r .lo) × (s .hi ≡ r .mid)
-  pub upper : count ≤ rank → (s .lo ≡ r .mid + 1) × (s .hi ≡ r .hi)
-
--- the range lies within the limits and holds the bits sought, if there is such an entry
-pub record Holds (l : List Float) (rank : ℕ) (r : Range) : Type 0 where
-  pub floor : 0x3C23D70A ≤ r .lo
-  pub ceiling : r .hi ≤ 0x3F800000
-  pub low : rank < length l → r .lo ≤ sought l rank
-  pub high : rank < length l → sought l rank ≤ r .hi

@@ -1,5 +1,5 @@
 // Threshold and edge bytes of a list of gradients (01, "Gradient and threshold", second paragraph).
-// Definitions: specs/Edges. Laws for callers: proofs/Laws.
+// Definitions: specs/Edges; specs/Search has those of the search for the threshold. Laws for callers: proofs/Laws.
 ghost use mathlib.Core.Path.{_≡_};
 ghost use mathlib.Core.List.{_++_};
 ghost use Prim.Native.Nat.{_+_, _-_, _*_, _/_, _^_, _≤_, _<_, min};
@@ -8,7 +8,8 @@ ghost use lib.ListN.{length, getD, drop};
 ghost use Rattle.lists.specs.Tab.{tab};
 ghost use Rattle.lists.specs.Picture.{bit};
 ghost use Rattle.rank.specs.Rank.{countAtMost};
-ghost use Rattle.edges.specs.Edges.{sample, rankOf, threshold, marks, AllPlain, part, sought, Placed, Halved, Holds};
+ghost use Rattle.edges.specs.Edges.{sample, rankOf, threshold, marks, AllPlain};
+ghost use Rattle.edges.specs.Search.{part, sought, Placed, Halved, Holds};
 
 // The bits of 0.01 and of 1.0, the limits of the threshold.
 const LEAST_BITS: u32 = 0x3C23D70A;

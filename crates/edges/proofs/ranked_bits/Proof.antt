@@ -3,7 +3,7 @@ use Prim.Native.Nat.{_-_, _<_}
 use native.Mathlib.Omega.{arith}
 use denote.Ref.{now}
 use Rattle.binary32.proofs.Plain.{Plain}
-use Rattle.edges.specs.Edges.{part, Placed, Holds}
+use Rattle.edges.specs.Search.{part, Placed, Holds}
 use Rattle.edges.proofs.Sample.{AllAre, part-plain}
 use Rattle.edges.proofs.Threshold.{holds-half}
 use Rattle.edges.proofs.ranked_bits.Statement.{statement}

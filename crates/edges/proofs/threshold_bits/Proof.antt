@@ -2,7 +2,7 @@
 
 use native.Mathlib.Omega.{arith}
 use denote.Ref.{now}
-use Rattle.edges.specs.Edges.{part}
+use Rattle.edges.specs.Search.{part}
 use Rattle.edges.proofs.Sample.{part-plain, part-all}
 use Rattle.edges.proofs.Threshold.{holds-all, holds-same, holds-half}
 use borrow.Author.Needs.{needs}
