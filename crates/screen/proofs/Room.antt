@@ -1,7 +1,7 @@
 -- `room` bytes are enough: what is printed for an input is what is printed for its first `room` bytes. Loading looks at the numbers of the
 -- pixels alone and at whether there are so many, and the first two lines are found in the front of the input (screens' Front). Assumes nothing.
 use Prim.Native.Nat.{ℕ, _+_, _-_, _*_, _/_, _%_, _≤_, _<_}
-use mathlib.Core.Path.{_≡_, refl, sym, ap, _∙_}
+use mathlib.Core.Path.{_≡_, refl, ap, _∙_}
 use mathlib.Core.Bool.{Bool, true, false, cond}
 use mathlib.Core.List.{List}
 use native.Mathlib.Nat.{mod-lt, div-add-mod'}
@@ -9,7 +9,7 @@ use native.Mathlib.Omega.{arith}
 use borrow.Author.Tests.{lt-ltb, le-ltb, ltb-true, ltb-false}
 use lib.Dec.{eqb, ltb}
 use lib.Ieee.{Float}
-use lib.ListN.{length, getD, take, drop, length-take}
+use lib.ListN.{length, take, drop, length-take}
 use lib.Seq.{getD-take}
 use Rattle.lists.proofs.Fill.{tab-same}
 use Rattle.board.specs.Board.{fresh}
@@ -38,20 +38,16 @@ test-front pixels m n h = go (ltb (length pixels) n) refl
 abbrev printed : ℕ → ℕ → ℕ → List Float → Values
 printed h w answer planes = cond (eqb answer 0) (located (found (fresh h w) planes)) (alone answer)
 
-module _ (h w : ℕ) (pixels : List ℕ) (m : ℕ) (enough : 4 * (h * w) ≤ m) where
+module _ (h w : ℕ) (pixels : List ℕ) (m : ℕ) (whole : 4 * (h * w) ≤ m) where
+  level-front : (k n : ℕ) → n < h * w → shown ofByte h w (take m pixels) .px k (n / w) (n % w) ≡ shown ofByte h w pixels .px k (n / w) (n % w)
+  level-front k n l = ap (level ofByte) (getD-take m pixels (4 * (n / w * w + n % w) + (2 - k)) 0 (omega (arith, div-add-mod' n w)))
+
   planes-front : packed (shown ofByte h w (take m pixels)) ≡ packed (shown ofByte h w pixels)
-  planes-front = tab-same (3 * (h * w)) _ _ at
-    where
-      at : (p : ℕ) → p < 3 * (h * w)
-          → shown ofByte h w (take m pixels) .px (p / (h * w)) (p % (h * w) / w) (p % (h * w) % w) ≡ shown ofByte h w pixels .px (p / (h * w)) (p % (h * w) / w) (p % (h * w) % w)
-      at p l =
-          let pixel = p % (h * w) in
-          let below : pixel < h * w = mod-lt p (omega arith) in
-          ap (level ofByte) (getD-take m pixels (4 * (pixel / w * w + pixel % w) + (2 - p / (h * w))) 0 (omega (arith, div-add-mod' pixel w)))
+  planes-front = tab-same (3 * (h * w)) _ _ (λ p l. level-front (p / (h * w)) (p % (h * w)) (mod-lt p (omega arith)))
 
   answer-front : loadAnswer h w (length (take m pixels)) (3 * (h * w)) ≡ loadAnswer h w (length pixels) (3 * (h * w))
   unfolding loadAnswer
-  answer-front = rw (test-front pixels m (4 * (h * w)) enough)
+  answer-front = rw (test-front pixels m (4 * (h * w)) whole)
 
   values-front : valuesOf h w (take m pixels) ≡ valuesOf h w pixels
   unfolding valuesOf
@@ -59,6 +55,7 @@ module _ (h w : ℕ) (pixels : List ℕ) (m : ℕ) (enough : 4 * (h * w) ≤ m) 
       ap (λ (answer : ℕ). printed h w answer (packed (shown ofByte h w (take m pixels)))) answer-front
       ∙ ap (printed h w (loadAnswer h w (length pixels) (3 * (h * w)))) planes-front
 
+-- the first two lines have at most 23 bytes
 pub enough : (input : List ℕ) → answerTo (take room input) ≡ answerTo input
 unfolding answerTo valuesFor
 enough input = rw (header-front input room (omega arith)) (go (headerOf input) (header-shown input))

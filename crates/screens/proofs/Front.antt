@@ -1,17 +1,17 @@
--- The first two lines are found in the front of the input: a cut behind their longest form changes nothing, and they end before it.
-use Prim.Native.Nat.{ℕ, zero, suc, _+_, _-_, _*_, _≤_, _<_}
+-- The first two lines are read from the front of the input: a cut behind their longest form changes nothing. Digits that go on past it are
+-- too many with the cut and without. Assumes nothing.
+use Prim.Native.Nat.{ℕ, zero, suc, _+_, _-_, _≤_, _<_}
 use mathlib.Core.Path.{_≡_, refl, sym, ap, _∙_}
 use mathlib.Core.Bool.{Bool, true, false, cond, _&&_}
 use mathlib.Core.List.{List, [], _∷_}
 use mathlib.Core.Logic.{_⊎_, inl, inr, ⊎-elim}
 use native.Mathlib.Nat.{not-suc-le-zero, le-of-suc-le-suc}
 use native.Mathlib.Omega.{arith}
-use borrow.Author.Tests.{lt-leb, leb-true, leb-false}
-use lib.Dec.{eqb, leb, ltb}
-use lib.ListN.{length, getD, take, drop}
+use borrow.Author.Tests.{lt-leb}
+use lib.Dec.{eqb, ltb}
+use lib.ListN.{length, take, drop}
 use lib.Seq.{getD-take, take-nil}
-use Rattle.screens.specs.declared.Input.the-variants.{Refused}
-use Rattle.screens.specs.Header.{sidesLine, begins, isDigit, digitCount, digitsEnd, fourAtMost, valueAt, sized, numbersAt, headerOf}
+use Rattle.screens.specs.Header.{sidesLine, begins, isDigit, digitCount, digitsEnd, fourAtMost, valueAt, numbersAt, headerOf}
 use Rattle.screens.proofs.Numbers.{four-facts, first-bad, second-bad, both-good}
 
 pub drop-take : (a m : ℕ) (l : List ℕ) → drop a (take m l) ≡ take (m - a) (drop a l)
