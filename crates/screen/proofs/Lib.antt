@@ -1,3 +1,4 @@
 pub mod Units
 pub mod Printed
 pub mod Sides
+pub mod Room

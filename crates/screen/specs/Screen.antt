@@ -1,5 +1,5 @@
 -- 01, "Screen program": the values that are printed, from the bytes of the input alone.
-use Prim.Native.Nat.{ℕ, _*_}
+use Prim.Native.Nat.{ℕ, _+_, _*_}
 use mathlib.Core.Bool.{cond}
 use mathlib.Core.List.{List}
 use lib.Dec.{eqb}
@@ -12,7 +12,7 @@ use Rattle.locate.specs.Locate.{found}
 use Rattle.screens.specs.declared.Input.{Input}
 use Rattle.screens.specs.declared.Input.the-variants.{Sides, Refused}
 use Rattle.screens.specs.declared.Values.{Values}
-use Rattle.screens.specs.Header.{headerOf}
+use Rattle.screens.specs.Header.{sidesLine, mostShown, headerOf}
 use Rattle.screens.specs.Text.{alone}
 
 -- what is printed of a located screen: rows is r, columns is c; the last two are the sides afterwards
@@ -53,3 +53,7 @@ valuesFor bytes (Refused n) = alone n
 unfoldable pub answerTo : List ℕ → Values
 unfolding headerOf valuesFor
 answerTo bytes = valuesFor bytes (headerOf bytes)
+
+-- bytes that are enough of any input: the first line, the longest second one, and the pixels of the largest screen
+abbrev pub room : ℕ
+room = length sidesLine + 10 + 4 * (mostShown * mostShown)

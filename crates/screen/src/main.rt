@@ -1,13 +1,14 @@
 // The screen program (01, "Screen program"): reads the sides and the pixels of a screen, loads it, locates the board and prints two lines.
 // What it reads and writes is in crate screens. It answers 11, 1, 2 and locating's. Definitions: specs/Screen.
 ghost use mathlib.Core.Path.{_≡_};
-ghost use Prim.Native.Nat.{_≤_};
-ghost use lib.ListN.{length};
+ghost use mathlib.Core.List.{List};
+ghost use Prim.Native.Nat.{ℕ, _≤_};
+ghost use lib.ListN.{length, take};
 ghost use Rattle.io.specs.Counts.{Counts};
 ghost use Rattle.screens.specs.Header.{mostShown};
 ghost use Rattle.screens.specs.Text.{textOf, Written};
 ghost use Rattle.screen.specs.Screen as Spec;
-ghost use Rattle.screen.specs.Screen.{valuesOf, answerTo};
+ghost use Rattle.screen.specs.Screen.{valuesOf, answerTo, room};
 use libc::STDIN_FILENO;
 use libc::STDOUT_FILENO;
 use locate::Located;
@@ -75,20 +76,21 @@ fn answer_to(bytes: &[u8]) -> Values
     }
 }
 
-// Everything but the input and the output: writes the two lines to the front of `out`, and answers how many bytes they are.
-fn reply(bytes: &[u8], out: &mut [u8]) -> usize
-    requires { ⌜ 380 ≤ length (now out) ⌝ }
-    ensures { λ r. ⌜ Written (textOf (answerTo (now (bytes .entry)))) (now (out .entry)) r (now (out .exit)) ⌝ }
+// Everything but the input and the output: writes the two lines to the front of `out`, and answers how many bytes they are. They are those
+// of any input whose first `room` bytes, or all where it has fewer, are the n that were read.
+fn reply(bytes: &[u8], n: usize, out: &mut [u8]) -> usize
+    requires { ⌜ (length (now bytes) ≡ room) × (n ≤ room) × (380 ≤ length (now out)) ⌝ }
+    ensures { λ r. ⌜ ((input : List ℕ) → take room input ≡ take n (now (bytes .entry)) → Written (textOf (answerTo input)) (now (out .entry)) r (now (out .exit))) ⌝ }
     ensures { λ r. ⌜ Counts r (now (out .exit)) ⌝ }
 {
-    screens::write_lines(answer_to(bytes), out)
+    screens::write_lines(answer_to(&bytes[..n]), out)
 }
 
-// 16,407 bytes hold the longest first two lines, 23 bytes, and 64 by 64 pixels. Whatever follows is not read.
+// The buffer has `room` bytes. Whatever follows them is not read.
 fn main() {
     let mut bytes: [u8; 16407] = [0; 16407];
     let n = io::read_full(STDIN_FILENO, &mut bytes);
     let mut text: [u8; 380] = [0; 380];
-    let count = reply(&bytes[..n], &mut text);
+    let count = reply(&bytes, n, &mut text);
     io::write_all(STDOUT_FILENO, &text[..count]);
 }

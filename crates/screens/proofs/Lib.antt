@@ -1,4 +1,5 @@
 pub mod Decimal
+pub mod Front
 pub mod Numbers
 pub mod Prefix
 pub mod Writing

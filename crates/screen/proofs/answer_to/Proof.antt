@@ -17,7 +17,9 @@ pixels-requires : tie.Need-pixels-requires
 pixels-requires c κs = search needs
 
 values-of-requires : tie.Need-values-of-requires
-values-of-requires c κs = rw (sym (c .before .before .before .before .header .ensures) ∙ c .before .before .height .given .1) at (header-shown (now (c .before .before .before .before .before .before .args .bytes)))
+values-of-requires c κs =
+    let shown = rw (sym (c .before .before .before .before .header .ensures) ∙ c .before .before .height .given .1) at (header-shown (now (c .before .before .before .before .before .before .args .bytes))) in
+    (shown .0, shown .1)
 
 enum-known-n : tie.Need-enum-known-n
 enum-known-n c = search needs
