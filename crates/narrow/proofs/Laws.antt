@@ -10,7 +10,7 @@ use lib.ListN.{length, length-append, length-drop, length-replicate}
 use lib.Seq.{take-at}
 use Rattle.lists.specs.Tab.{tabFrom, grid}
 use Rattle.lists.proofs.Fill.{length-tabFrom}
-use Rattle.rank.proofs.Member.{Each, entry-each}
+use Rattle.rank.proofs.Members.{Each, entry-each}
 use Rattle.board.specs.Screen.{Screen, packed, view}
 use Rattle.gradient.specs.Gradient.{allUnits}
 use Rattle.narrow.specs.Narrow.{UnitPlanes, block, median, narrowed, narrow}
