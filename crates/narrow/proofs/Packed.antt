@@ -6,7 +6,7 @@ use native.Mathlib.Nat.{mul-comm, mul-assoc, mul-le-mul, mul-le-mul-right, add-m
 use native.Mathlib.Omega.{arith}
 use lib.Arith.{digits-div, digits-mod, mod-mul}
 use lib.Ieee.{Float}
-use lib.ListN.{length, take, drop}
+use lib.ListN.{length, take, drop, length-drop}
 use lib.Seq.{take-at, drop-at, drop-drop}
 use borrow.Rule.Slice.PartMut.{midOf, putMid}
 use Rattle.lists.specs.Tab.{tab}
@@ -42,9 +42,10 @@ pub filled-row : (s : Screen) (r : ℕ) {d out : List Float} (row : List Float) 
     r * s .width + s .width ≤ length d →
     row ≡ tab (s .width) (s .px (r / s .height) (r % s .height)) ++ drop (s .width) (midOf (r * s .width) (length out - r * s .width) out) →
     Filled (cell s) ((r + 1) * s .width) d (putMid (r * s .width) (length out - r * s .width) out row)
-filled-row s r row l h b e =
+filled-row s r {d} {out} row l h b e =
     let n : (r + 1) * s .width ≡ r * s .width + s .width = omega (arith, add-mul r 1 (s .width), one-mul (s .width)) in
-    rw n (filled-part (s .width) row h b (rw (row-of-cells s r l) e))
+    let k = length out - r * s .width in
+    rw n (filled-part k (s .width) row h (simp (mid-rest, length-drop) (omega (arith, h .len))) (rw (row-of-cells s r l) e))
 
 pub length-packed : (s : Screen) → length (packed s) ≡ 3 * (s .height * s .width)
 length-packed s = length-tabFrom 0 (3 * (s .height * s .width)) (cell s)
