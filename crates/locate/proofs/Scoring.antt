@@ -14,7 +14,7 @@ use Rattle.lists.specs.Picture.{flip}
 use Rattle.bounds.specs.declared.Bounds.{Bounds}
 use Rattle.strips.specs.Strip.{scores, columnScores, rowScores}
 use Rattle.strips.proofs.Scores.{length-scores, scores-most}
-use Rattle.lines.specs.Lines.{largest, wideGaps, linesOf, Scores}
+use Rattle.lines.specs.Lines.{largest, wideGaps, linesOf, InLimits}
 use Rattle.votes.specs.Votes.{winner}
 use Rattle.votes.proofs.Row.{votes-few}
 use Rattle.reading.specs.declared.Quarters.the-variants.{Refused}
@@ -44,7 +44,7 @@ largest-le [] n h = omega arith
 largest-le (x ∷ l) n h = omega (arith, h 0, largest-le l n (λ i. h (suc i)))
 
 -- a score list can be read
-pub scores-fit : (E : ℕ → ℕ → Bool) (from to c₁ c₂ : ℕ) → c₁ + 4 ≤ c₂ → c₂ ≤ 4096 → to ≤ 4096 → Scores (scores E from to c₁ c₂)
+pub scores-fit : (E : ℕ → ℕ → Bool) (from to c₁ c₂ : ℕ) → c₁ + 4 ≤ c₂ → c₂ ≤ 4096 → to ≤ 4096 → InLimits (scores E from to c₁ c₂)
 scores-fit E from to c₁ c₂ span high most =
     let n = length-scores E from to c₁ c₂ span in
     record {
@@ -54,7 +54,7 @@ scores-fit E from to c₁ c₂ span high most =
     }
 
 -- the numbers of a reading fit 32 bits
-pub quarters-short : (s : List ℕ) → Scores s → Short (quartersOf s)
+pub quarters-short : (s : List ℕ) → InLimits s → Short (quartersOf s)
 unfolding quartersOf
 quarters-short s f = gapped (eqb (length (wideGaps (linesOf s))) 0) refl
   where
@@ -85,10 +85,10 @@ module _ (E : ℕ → ℕ → Bool) (b : Bounds) (rest whole : List ℕ) (rows :
   pub down-part : take (b .«c_2» - b .«c_1» + (b .«r_2» - b .«r_1») - (b .«c_2» - b .«c_1»)) (drop (b .«c_2» - b .«c_1») whole) ≡ rowScores E b
   down-part = second-part (columnScores E b) (rowScores E b) rest whole _ _ across-length down-length e
 
-  pub across-fit : Scores (columnScores E b)
+  pub across-fit : InLimits (columnScores E b)
   across-fit = scores-fit E _ _ _ _ columns (omega arith) (omega arith)
 
-  pub down-fit : Scores (rowScores E b)
+  pub down-fit : InLimits (rowScores E b)
   down-fit = scores-fit (flip E) _ _ _ _ rows (omega arith) (omega arith)
 
   pub across-in : length (take (b .«c_2» - b .«c_1») whole) ≡ b .«c_2» - b .«c_1»

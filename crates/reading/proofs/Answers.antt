@@ -5,7 +5,7 @@ use mathlib.Core.List.{List}
 use native.Mathlib.Omega.{arith}
 use borrow.Author.Tests.{eq-eqb, ne-eqb, le-leb, lt-leb, lt-ltb, le-ltb}
 use lib.ListN.{length}
-use Rattle.lines.specs.Lines.{largest, Scores, linesOf, wideGaps}
+use Rattle.lines.specs.Lines.{largest, InLimits, linesOf, wideGaps}
 use Rattle.reading.specs.declared.Reading.the-variants as Of
 use Rattle.reading.specs.declared.Quarters.the-variants as In
 use Rattle.reading.specs.Reading.{gapOf, remaining, accepted, quartersOf, pitched, readingOf}
@@ -42,6 +42,6 @@ module _ (s : List ℕ) (room : ℕ) where
   unfolding readingOf
   too-high a b c d = rw (le-ltb (length s) 4 a, le-ltb 4096 (length s) b, le-ltb room (4 * length s) c, lt-ltb 4096 (largest s) d)
 
-  pub fit : Scores s → 4 * length s ≤ room → pitched (quartersOf s) ≡ readingOf s room
+  pub fit : InLimits s → 4 * length s ≤ room → pitched (quartersOf s) ≡ readingOf s room
   unfolding readingOf
   fit f c = rw (le-ltb (length s) 4 (f .least), le-ltb 4096 (length s) (f .most), le-ltb room (4 * length s) c, le-ltb 4096 (largest s) (f .entries))

@@ -8,7 +8,7 @@ use native.Mathlib.Omega.{arith}
 use borrow.Author.Tests.{eqb-false, leb-false, ltb-true, ltb-false}
 use lib.Dec.{eqb, leb, ltb}
 use lib.ListN.{length, getD, List·getD-eq-default}
-use Rattle.lines.specs.Lines.{Scores, linesOf, wideGaps}
+use Rattle.lines.specs.Lines.{InLimits, linesOf, wideGaps}
 use Rattle.lines.proofs.Laws.{kept}
 use Rattle.lines.proofs.Rising.{Rising, rising-at, rising-length}
 use Rattle.votes.specs.Votes.{Wins, winner}
@@ -24,7 +24,7 @@ low-at n l h r k = go (ltb k (length l)) refl
     go true e = omega (arith, rising-at 0 n l k r (ltb-true k (length l) e))
     go false e = rw (List·getD-eq-default l 0 {n = k} (ltb-false k (length l) e)) (omega arith)
 
-pub readable : (s : List ℕ) (room : ℕ) → Scores s → 4 * length s ≤ room → 0 < length (wideGaps (linesOf s)) → gapOf s < 206 →
+pub readable : (s : List ℕ) (room : ℕ) → InLimits s → 4 * length s ≤ room → 0 < length (wideGaps (linesOf s)) → gapOf s < 206 →
     Readable (gapOf s) (remaining s) room
 readable s room f r g h =
     let k = kept s (f .most) (omega arith) in
@@ -51,7 +51,7 @@ abbrev pub Won : List ℕ → Quarters → Type 0
 Won s (In.Read q offset count votes) = Wins (remaining s) (gapOf s) (record { votes = votes; offset = offset; quarter = q })
 Won s (In.Refused n) = Unit
 
-pub won : (s : List ℕ) → Scores s → Won s (quartersOf s)
+pub won : (s : List ℕ) → InLimits s → Won s (quartersOf s)
 unfolding quartersOf
 won s f = gapped (eqb (length (wideGaps (linesOf s))) 0) refl
   where
@@ -68,5 +68,5 @@ won-pitched : (s : List ℕ) (q : Quarters) → Won s q → Pitched q
 won-pitched s (In.Read q offset count votes) w = omega (arith, w .in-range .below)
 won-pitched s (In.Refused n) w = tt
 
-pub quarters-pitched : (s : List ℕ) → Scores s → Pitched (quartersOf s)
+pub quarters-pitched : (s : List ℕ) → InLimits s → Pitched (quartersOf s)
 quarters-pitched s f = won-pitched s (quartersOf s) (won s f)
