@@ -1,13 +1,20 @@
--- A grid row by row: one row more, and a loop over rows and columns that fills a list by a rule for each row and column. Assumes nothing.
-use Prim.Native.Nat.{ℕ, _+_, _*_, _/_, _%_, _<_}
+-- A grid row by row: where its rows end, one row more, and a loop over rows and columns that fills a list by a rule for each row and column. Assumes nothing.
+use Prim.Native.Nat.{ℕ, _+_, _*_, _/_, _%_, _≤_, _<_}
 use mathlib.Core.Path.{_≡_, refl, ap, _∙_}
 use mathlib.Core.List.{List, [], _∷_, _++_}
-use native.Mathlib.Nat.{add-zero, add-mul, one-mul}
+use native.Mathlib.Nat.{add-zero, add-mul, suc-mul, one-mul, mul-le-mul-right}
 use native.Mathlib.Omega.{arith}
 use lib.Arith.{digits-div, digits-mod}
 use lib.ListN.{length, set, length-set}
 use Rattle.lists.specs.Tab.{tab, grid}
 use Rattle.lists.proofs.Fill.{Filled, filled-more, tab-same, tab-add}
+
+-- rows i to i + w of n rows end within them
+pub rows-fit : (i w n s : ℕ) → i + w ≤ n → i * s + w * s ≤ n * s
+rows-fit i w n s h = omega (arith, mul-le-mul-right s h, add-mul i w s)
+
+pub row-fits : (i n s : ℕ) → i < n → i * s + s ≤ n * s
+row-fits i n s h = omega (arith, mul-le-mul-right s h, suc-mul i s)
 
 module _ {A : Type 0} where
   pub tab-more : (n : ℕ) (f : ℕ → A) → tab (n + 1) f ≡ tab n f ++ (f n ∷ [])

@@ -29,6 +29,12 @@ module _ {A : Type 0} where
   pub put-rest : (a : ℕ) (s last : List A) → putMid a (length s - a) s last ≡ take a s ++ last
   put-rest a s last = rw (drop-of-length-le (drop a s) {i = length s - a} (simp length-drop (omega arith)), append-nil)
 
+  -- a list at the front, then another in the part behind it
+  pub put-behind : (n m : ℕ) (p q given : List A) {s last : List A} → length p ≡ n → s ≡ p ++ drop n given →
+      last ≡ q ++ drop m (midOf n (length s - n) s) → putMid n (length s - n) s last ≡ p ++ (q ++ drop (n + m) given)
+  put-behind n m p q given {s} {last} l e f =
+      put-rest n s last ∙ rw (f, mid-rest n s, e, take-at p (drop n given) n l, drop-at p (drop n given) n l, drop-drop)
+
   -- where the part's first m entries follow the rule, the filling has come m entries further
   pub filled-part : {f : ℕ → A} {a : ℕ} {d s : List A} (k m : ℕ) (last : List A) → Filled f a d s → m ≤ length (midOf a k s) →
       last ≡ tab m (λ j. f (a + j)) ++ drop m (midOf a k s) →

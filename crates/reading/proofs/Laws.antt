@@ -1,6 +1,6 @@
 -- What an accepted reading is known to be, for callers: the winner of the lines that remain, with a pitch of at most 200.
 -- It rests on what crate lines shows of the lines that remain. Assumes nothing.
-use Prim.Native.Nat.{ℕ, _-_, _*_, _≤_, _<_}
+use Prim.Native.Nat.{ℕ, _*_, _≤_, _<_}
 use mathlib.Core.Path.{_≡_, refl}
 use mathlib.Core.Bool.{Bool, true, false, cond}
 use mathlib.Core.List.{List}
@@ -46,23 +46,28 @@ readable-low r = omega (arith, readable-wins r .in-range .below)
 
 -- ---- what a reading is known to be
 
+-- what holds of both refusals, and of what is read where the lines are readable, holds of the reading
+pub by-outcome : (P : Quarters → Type 0) (s : List ℕ) → InLimits s → P (In.Refused 6) → P (In.Refused 7) →
+    (Readable (gapOf s) (remaining s) (4 * length s) → P (accepted (gapOf s) (remaining s))) → P (quartersOf s)
+unfolding quartersOf
+by-outcome P s f no-gap too-wide read = gapped (eqb (length (wideGaps (linesOf s))) 0) refl
+  where
+    near : 0 < length (wideGaps (linesOf s)) → (t : Bool) → leb 206 (gapOf s) ≡ t → P (cond t (In.Refused 7) (accepted (gapOf s) (remaining s)))
+    near g true e = too-wide
+    near g false e = read (readable s (4 * length s) f (omega arith) g (leb-false 206 (gapOf s) e))
+
+    gapped : (t : Bool) → eqb (length (wideGaps (linesOf s))) 0 ≡ t →
+        P (cond t (In.Refused 6) (cond (leb 206 (gapOf s)) (In.Refused 7) (accepted (gapOf s) (remaining s))))
+    gapped true e = no-gap
+    gapped false e = near (omega (arith, eqb-false (length (wideGaps (linesOf s))) 0 e)) (leb 206 (gapOf s)) refl
+
 -- an accepted reading is the winner of the lines that remain
 abbrev pub Won : List ℕ → Quarters → Type 0
 Won s (In.Read q offset count votes) = Wins (remaining s) (gapOf s) (record { votes = votes; offset = offset; quarter = q })
 Won s (In.Refused n) = Unit
 
 pub won : (s : List ℕ) → InLimits s → Won s (quartersOf s)
-unfolding quartersOf
-won s f = gapped (eqb (length (wideGaps (linesOf s))) 0) refl
-  where
-    near : 0 < length (wideGaps (linesOf s)) → (t : Bool) → leb 206 (gapOf s) ≡ t → Won s (cond t (In.Refused 7) (accepted (gapOf s) (remaining s)))
-    near g true e = tt
-    near g false e = readable-wins (readable s (4 * length s) f (omega arith) g (leb-false 206 (gapOf s) e))
-
-    gapped : (t : Bool) → eqb (length (wideGaps (linesOf s))) 0 ≡ t →
-        Won s (cond t (In.Refused 6) (cond (leb 206 (gapOf s)) (In.Refused 7) (accepted (gapOf s) (remaining s))))
-    gapped true e = tt
-    gapped false e = near (omega (arith, eqb-false (length (wideGaps (linesOf s))) 0 e)) (leb 206 (gapOf s)) refl
+won s f = by-outcome (Won s) s f tt tt readable-wins
 
 won-pitched : (s : List ℕ) (q : Quarters) → Won s q → Pitched q
 won-pitched s (In.Read q offset count votes) w = omega (arith, w .in-range .below)

@@ -3,7 +3,7 @@ use Prim.Native.Nat.{ℕ, _+_, _-_, _*_, _/_, _%_, _≤_, _<_}
 use mathlib.Core.Path.{_≡_, refl, sym, ap, _∙_}
 use mathlib.Core.Bool.{Bool, true, false}
 use mathlib.Core.List.{List}
-use native.Mathlib.Nat.{not-suc-le-zero, zero-add, add-mul, suc-mul, mul-le-mul-right, div-lt-iff-lt-mul, div-add-mod', mod-lt}
+use native.Mathlib.Nat.{not-suc-le-zero, zero-add, add-mul, div-lt-iff-lt-mul, div-add-mod', mod-lt}
 use native.Mathlib.Omega.{arith}
 use borrow.Author.Tests.{eqb-true, eqb-false, ltb-true, ltb-false}
 use lib.Arith.{digits-lt, digits-div, digits-mod}
@@ -14,13 +14,6 @@ use Rattle.lists.specs.Picture.{points}
 use Rattle.strips.specs.Strip.{at, onStrip, score}
 use Rattle.strips.specs.States.{Marks, Copied, Turned}
 use Rattle.strips.proofs.Walks.{least-same}
-
--- rows i to i + w of n rows end within them
-pub rows-fit : (i w n s : ℕ) → i + w ≤ n → i * s + w * s ≤ n * s
-rows-fit i w n s h = omega (arith, mul-le-mul-right s h, add-mul i w s)
-
-pub row-fits : (i n s : ℕ) → i < n → i * s + s ≤ n * s
-row-fits i n s h = omega (arith, mul-le-mul-right s h, suc-mul i s)
 
 -- a place in rows of b is in one row, at one column
 same-row : (b j d k f : ℕ) → d < b → f < b → j * b + d ≡ k * b + f → j ≡ k
