@@ -11,11 +11,11 @@ use lib.IntN.{pos}
 use lib.Ieee.{Float, nan, inf, fin, binary32, up, down, round, mul, ofInt, le, toUnsigned}
 use lib.Ieee.Fits.{down-pos}
 use lib.Ieee.Exact.{HasValue, round-exact}
-use lib.Ieee.Back.{round-whole}
 use lib.Ieee.Order.{round-mono, transfer}
 use lib.Ieee.Positive.{mul-at, positive-of-value}
 use Rattle.binary32.specs.Binary32.{trunc}
 use Rattle.binary32.proofs.Order.{or-le}
+use Rattle.binary32.proofs.Values.{whole-value}
 
 -- what is at most q / 4 is cut to a number below m, where q is below 4 · m
 cut-below : (x y : Float) (m q : ℕ) → HasValue y false q 4 → q < 4 * m → T (le x y) → trunc x < m
@@ -36,15 +36,11 @@ cut-below (fin false k e) (fin false n d) m q v h l =
     let b : k * up e / down e < m = div-lt-iff-lt-mul (down-pos e) .1 (omega (arith, mul-assoc 4 m (down e))) in
     omega arith
 
-whole : (m : ℕ) → m ≤ 2 ^ 22 → HasValue (ofInt binary32 (pos m)) false m 1
-unfolding ofInt
-whole m h = round-whole binary32 false m (omega arith)
-
 pub share-below : (x : Float) (a b m : ℕ) → HasValue x false a b → 0 < a → 0 < b → 0 < m → m ≤ 2 ^ 22 → m * a * 4 ≤ (4 * m - 1) * b
     → trunc (mul binary32 (ofInt binary32 (pos m)) x) < m
 share-below x a b m v A B M l h =
     let q = 4 * m - 1 in
-    let w = whole m l in
+    let w = whole-value m (omega arith) in
     let y = ofInt binary32 (pos m) in
     let e : mul binary32 y x ≡ round binary32 false (m * a) (1 * b) =
     mul-at binary32 y x m 1 a b (positive-of-value y m 1 w M) (positive-of-value x a b v A) (lit< tt) B w v in

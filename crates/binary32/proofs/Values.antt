@@ -7,8 +7,10 @@ use native.Mathlib.Omega.{arith}
 use borrow.Author.Tests.{ltb-false, le-leb}
 use lib.Dec.{T}
 use lib.IntN.{pos}
-use lib.Ieee.{Float, nan, inf, fin, binary32, lt, ne, up, down, fits, isNan, nanBits, inFloat, toUnsigned, ofBits, toBits, top}
+use lib.Ieee.{Float, nan, inf, fin, binary32, lt, ne, up, down, fits, isNan, nanBits, inFloat, ofInt, toUnsigned, ofBits, toBits, top}
 use lib.Ieee.Fits.{down-pos}
+use lib.Ieee.Exact.{HasValue}
+use lib.Ieee.Back.{round-whole}
 use lib.Ieee.Bits.{ofBits-toBits, toBits-lt, nanBits-is}
 use Rattle.binary32.specs.Binary32.{magnitude}
 
@@ -26,6 +28,10 @@ no-nan (fin s m k) e = tt
 pub in-float : {n : ℕ} → n ≤ 16777216 → T (inFloat binary32 (pos n))
 unfolding inFloat
 in-float {n} h = T-of (le-leb n 16777216 h)
+
+pub whole-value : (n : ℕ) → n ≤ 16777216 → HasValue (ofInt binary32 (pos n)) false n 1
+unfolding ofInt
+whole-value n h = round-whole binary32 false n h
 
 -- ---- truncation outside the range that the kit's function takes
 

@@ -1,5 +1,11 @@
 // Single binary32 values: the leaves that the later steps share (01, first paragraph and "How each operation declines").
-// Definitions: specs/Binary32. Laws for callers: proofs/Order (the order of values as the order of their bits), proofs/Units and proofs/Values.
+// Definitions: specs/Binary32. Laws for callers:
+// proofs/Values: what a test tells of a single value, whole numbers that are exact, truncation, the magnitude by its bits.
+// proofs/Numbers: sums and magnitudes of numbers are numbers.
+// proofs/Order: values that are not negative are ordered as their bits are.
+// proofs/Plain: the same for a comparison with a value given by its bits.
+// proofs/Units: the smaller and the larger of two units by their bits.
+// proofs/Share: a share of m, cut to a whole number, is below m.
 ghost use mathlib.Core.Path.{_≡_};
 ghost use mathlib.Core.Bool.{not};
 ghost use lib.Dec.{T};

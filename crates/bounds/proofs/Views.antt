@@ -1,14 +1,12 @@
 -- Points of a view are bytes of the slice, for columns and for rows. Assumes nothing.
 use Prim.Native.Nat.{ℕ, _+_, _*_, _≤_, _<_}
-use mathlib.Core.Path.{_≡_, sym, _∙_, ap, fun-ext}
+use mathlib.Core.Path.{_≡_, sym, _∙_, ap}
 use mathlib.Core.Bool.{Bool}
 use mathlib.Core.List.{List}
-use native.Mathlib.Nat.{add-comm}
 use native.Mathlib.Omega.{arith}
 use lib.Arith.{digits-lt}
-use lib.Dec.{eqb}
-use lib.ListN.{getD}
 use Rattle.lists.specs.Picture.{flip, points}
+use Rattle.lists.proofs.Picture.{flip-points}
 use Rattle.bounds.specs.declared.View.{View}
 use Rattle.bounds.specs.declared.Way.{Way}
 use Rattle.bounds.specs.declared.Way.the-variants.{Near, Far}
@@ -18,11 +16,6 @@ use Rattle.bounds.specs.View.{Lies, columnsOf, rowsOf}
 pub place-below : (way : Way) {along m : ℕ} → m < along → place way along m < along
 place-below Near h = h
 place-below Far h = omega arith
-
--- the flipped picture is the one with its steps exchanged
-pub flip-points : (down right : ℕ) (e : List ℕ) → flip (points down right e) ≡ points right down e
-unfolding points
-flip-points down right e = fun-ext (λ i. fun-ext (λ j. ap (λ (k : ℕ). eqb (getD e k 0) 1) (add-comm (j * down) (i * right))))
 
 -- a rule F of the view, for columns and for rows
 module _

@@ -7,6 +7,7 @@ use native.Mathlib.Omega.{arith}
 use lib.Dec.{leb}
 use mir.Val.{boolByte}
 use Rattle.lists.specs.Picture.{bit}
+use Rattle.lists.proofs.Picture.{bit-le}
 use Rattle.bounds.specs.declared.Beside.{Beside}
 use Rattle.bounds.specs.Widen.{total, lowered, second, pair}
 use Rattle.bounds.proofs.Scans.{left-more, left-none}
@@ -15,10 +16,6 @@ use Rattle.bounds.proofs.Scans.{left-more, left-none}
 pub byte-bit : (b : Bool) → boolByte b ≡ bit b
 byte-bit true = refl
 byte-bit false = refl
-
-pub bit-le : (b : Bool) → bit b ≤ 1
-bit-le true = omega arith
-bit-le false = omega arith
 
 pub pair-le : (b : Beside) (at : ℕ → ℕ → Bool) (m p : ℕ) → pair b at m p ≤ 2
 pair-le b at m p = omega (arith, bit-le (at p m), bit-le (second b at p m))

@@ -1,24 +1,17 @@
--- Entries of at most 4,096 are found by counting, and are exact as binary32. Assumes nothing.
+-- Entries of a list with no entry above v: all are counted, and so none of the sorted list is above v. Assumes nothing.
 use Prim.Native.Nat.{ℕ, _≤_}
 use mathlib.Core.Path.{_≡_, refl}
 use mathlib.Core.Bool.{Bool, true, false}
 use mathlib.Core.List.{List}
 use native.Mathlib.Omega.{arith}
-use borrow.Author.Tests.{le-leb, ltb-true, ltb-false}
-use lib.Dec.{T, ltb}
-use lib.IntN.{pos}
-use lib.Ieee.{binary32, inFloat}
+use borrow.Author.Tests.{ltb-true, ltb-false}
+use lib.Dec.{ltb}
 use lib.ListN.{length}
-use Rattle.binary32.proofs.Values.{T-of}
 use Rattle.rank.specs.Rank.{self, entry, countAtMost}
 use Rattle.rank.proofs.Counts.{count-all}
 use Rattle.rank.proofs.Entry.{at-least, entry-none}
 use Rattle.lines.specs.Lines.{largest}
 use Rattle.lines.proofs.Windows.{largest-at}
-
-pub exact : (n : ℕ) → n ≤ 4096 → T (inFloat binary32 (pos n))
-unfolding inFloat
-exact n h = T-of (le-leb n 16777216 (omega arith))
 
 pub all-counted : (l : List ℕ) (v : ℕ) → largest l ≤ v → countAtMost self v l ≡ length l
 all-counted l v h = count-all self v l 0 (λ k b. omega (arith, largest-at l k))

@@ -5,10 +5,9 @@ use mathlib.Core.Bool.{Bool, true, false, cond, true≢false}
 use mathlib.Core.List.{List, [], _∷_}
 use mathlib.Core.Logic.{_⊎_, inl, inr, ⊎-elim}
 use native.Mathlib.Omega.{arith}
-use lib.Dec.{leb}
 use lib.ListN.{length, getD}
-use Rattle.rank.specs.Rank.{self, insert, sort, entry}
-use Rattle.rank.proofs.Sorted.{length-sort}
+use Rattle.rank.specs.Rank.{self, entry}
+use Rattle.rank.proofs.Members.{entry-has}
 use Rattle.lines.specs.Lines.{keep, gaps, narrowGap, dropFirst, dropLast}
 use Rattle.lines.proofs.Rising.{Rising, rising-at}
 
@@ -21,22 +20,8 @@ has-at [] k h = absurd (omega arith)
 has-at (x ∷ l) zero h = inl refl
 has-at (x ∷ l) (suc k) h = inr (has-at l k (omega arith))
 
-has-insert : (v x : ℕ) (l : List ℕ) → Has v (insert self x l) → Has v (x ∷ l)
-has-insert v x [] m = m
-has-insert v x (y ∷ l) m = at (has-insert v x l) (leb x y) m
-  where
-    at : (Has v (insert self x l) → Has v (x ∷ l)) → (t : Bool) → Has v (cond t (x ∷ y ∷ l) (y ∷ insert self x l)) → Has v (x ∷ y ∷ l)
-    at ih true m = m
-    at ih false (inl e) = inr (inl e)
-    at ih false (inr m) = ⊎-elim (λ e. inl e) (λ r. inr (inr r)) (ih m)
-
-has-sort : (v : ℕ) (l : List ℕ) → Has v (sort self l) → Has v l
-has-sort v [] m = m
-has-sort v (x ∷ l) m = ⊎-elim (λ e. inl e) (λ r. inr (has-sort v l r)) (has-insert v x (sort self l) m)
-
 pub has-entry : (l : List ℕ) (j : ℕ) → j < length l → Has (entry self 0 l j) l
-unfolding entry
-has-entry l j h = has-sort _ l (has-at (sort self l) j (omega (arith, length-sort self l)))
+has-entry l j h = entry-has self 0 (λ v. Has v l) l j h (has-at l)
 
 pub has-keep : (p : ℕ → Bool) (v : ℕ) (l : List ℕ) → Has v (keep p l) → (p v ≡ true) × Has v l
 has-keep p v [] m = absurd m

@@ -9,18 +9,13 @@ use lib.Dec.{T}
 use lib.Ieee.{Float, nan, inf, fin, binary32, le, mul, round, ofInt, ofBits, toUnsigned, down, up}
 use lib.Ieee.Exact.{HasValue}
 use lib.Ieee.Order.{round-mono}
-use lib.Ieee.Back.{round-whole}
 use lib.Ieee.Positive.{positive, own-value, positive-of-value, values-of-le, le-trans-positive, between, mul-at}
 use Rattle.binary32.specs.Binary32.{trunc}
-use Rattle.binary32.proofs.Values.{T-of}
+use Rattle.binary32.proofs.Values.{T-of, whole-value}
 use Rattle.lines.specs.Lines.{float, narrowGap}
 
-whole : (n : ℕ) → n ≤ 4096 → HasValue (float n) false n 1
-unfolding ofInt
-whole n h = round-whole binary32 false n (omega arith)
-
 whole-positive : (n : ℕ) → 1 ≤ n → n ≤ 4096 → T (positive (float n))
-whole-positive n l h = positive-of-value (float n) n 1 (whole n h) l
+whole-positive n l h = positive-of-value (float n) n 1 (whole-value n (omega arith)) l
 
 -- y is b / d, and 1.0 · y is above zero
 record Is (y : Float) (b d : ℕ) : Type 0 where
@@ -38,7 +33,7 @@ unfolding ofBits mul ofInt
 eight-tenths = record { value = (refl, refl); above = tt; d-pos = omega arith; one = tt }
 
 product : {y : Float} {b d : ℕ} → Is y b d → (n : ℕ) → 1 ≤ n → n ≤ 4096 → mul binary32 (float n) y ≡ round binary32 false (n * b) (1 * d)
-product {y} {b} {d} is n l h = mul-at binary32 (float n) y n 1 b d (whole-positive n l h) (is .above) (omega arith) (is .d-pos) (whole n h) (is .value)
+product {y} {b} {d} is n l h = mul-at binary32 (float n) y n 1 b d (whole-positive n l h) (is .above) (omega arith) (is .d-pos) (whole-value n (omega arith)) (is .value)
 
 -- where the exact product is at most m, so is the rounded one
 product-le : {y : Float} {b d : ℕ} → Is y b d → (n m : ℕ) → 1 ≤ n → n ≤ 4096 → n * b ≤ m * d → T (le (mul binary32 (float n) y) (float m))
@@ -59,7 +54,7 @@ cut-le nan m p l h k = absurd p
 cut-le (inf s) m p l h k = absurd p
 cut-le (fin true n e) m p l h k = absurd p
 cut-le (fin false n e) m p l h k =
-    let c = values-of-le (fin false n e) (float m) (n * up e) (down e) m 1 p (whole-positive m l h) (own-value (fin false n e) p) (whole m h) k in
+    let c = values-of-le (fin false n e) (float m) (n * up e) (down e) m 1 p (whole-positive m l h) (own-value (fin false n e) p) (whole-value m (omega arith)) k in
     omega (arith, div-le-of-le-mul (down e) {m = n * up e} {n = m} (omega (arith, mul-comm m (down e))))
 
 cut-one : trunc (mul binary32 (float 1) (ofBits binary32 0x3ECCCCCD)) ≡ 0
@@ -88,5 +83,5 @@ not-narrow e l h = go (narrowGap e e) refl
         let p = whole-positive e (omega arith) h in
         let r = whole-positive (e - 1) (omega arith) (omega arith) in
         let back = le-trans-positive (float e) z (float (e - 1)) p (between (float e) z (float (e - 1)) p r (T-of q) under) r (T-of q) under in
-        absurd (omega (arith, values-of-le (float e) (float (e - 1)) e 1 (e - 1) 1 p r (whole e h) (whole (e - 1) (omega arith)) back))
+        absurd (omega (arith, values-of-le (float e) (float (e - 1)) e 1 (e - 1) 1 p r (whole-value e (omega arith)) (whole-value (e - 1) (omega arith)) back))
     go false q = q

@@ -8,17 +8,11 @@ use native.Mathlib.Omega.{arith}
 use borrow.Author.Tests.{lt-ltb, le-ltb, le-leb, lt-leb}
 use lib.Dec.{ltb, leb}
 use lib.ListN.{length, getD, take, drop, length-append, List·getD-append}
-use lib.Seq.{ext-getD, drop-append-seam, take-append-seam, set-getD}
+use lib.Seq.{drop-append-seam, take-append-seam, set-getD}
 use Rattle.lists.specs.Tab.{tab}
 use Rattle.lists.proofs.Fill.{Filled, filled-none, filled-more, filled-beyond, length-tabFrom, getD-tab}
 use Rattle.lines.specs.Lines.{largest, before, behind, smoothed, smooth}
 use Rattle.lines.proofs.Windows.{largest-at, largest-le, largest-take, largest-drop}
-
--- a list is the list of its own entries
-pub tab-self : (l : List ℕ) → tab (length l) (λ i. getD l i 0) ≡ l
-tab-self l =
-    let n = length-tabFrom 0 (length l) (λ (i : ℕ). getD l i 0) in
-    ext-getD 0 _ l n (λ i h. getD-tab (length l) i (λ (k : ℕ). getD l k 0) 0 (omega arith))
 
 -- what is right already need not be written
 filled-kept :

@@ -15,8 +15,8 @@ abbrev pub largest : List ℕ → ℕ
 largest [] = 0
 largest (x ∷ l) = max x (largest l)
 
--- a list of scores: 4 to 4,096 of them, none above 4,096
-pub record Scores (s : List ℕ) : Type 0 where
+-- a list of scores within the limits: 4 to 4,096 of them, none above 4,096
+pub record InLimits (s : List ℕ) : Type 0 where
   pub least : 4 ≤ length s
   pub most : length s ≤ 4096
   pub entries : largest s ≤ 4096

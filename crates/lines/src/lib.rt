@@ -7,7 +7,7 @@ ghost use Prim.Native.Nat.{_+_, _-_, _≤_, _<_, min, max};
 ghost use lib.Dec.{eqb};
 ghost use lib.ListN.{length, getD, take, drop};
 ghost use Rattle.lists.specs.Tab.{tab};
-ghost use Rattle.lines.specs.Lines.{largest, Scores, before, behind, smoothed, smooth, countEqual, standsOut, isLine, keep, linesOf, lineThreshold};
+ghost use Rattle.lines.specs.Lines.{largest, InLimits, before, behind, smoothed, smooth, countEqual, standsOut, isLine, keep, linesOf, lineThreshold};
 ghost use Rattle.lines.specs.Lines.{Listed, wideGaps, estimate, narrowGap, dropFirst, dropLast, Remains};
 
 // No score is above this, and no list longer.
@@ -79,7 +79,7 @@ pub fn smooth_into(s: &[u32], t: &mut [u32])
 // ---- the threshold
 
 pub fn line_threshold(s: &[u32]) -> f32
-    requires { ⌜ Scores (now s) ⌝ }
+    requires { ⌜ InLimits (now s) ⌝ }
     ensures { λ r. ⌜ r ≡ lineThreshold (now (s .entry)) ⌝ }
 {
     let j = binary32::trunc(0.85 * s.len() as f32) as usize;
@@ -186,7 +186,7 @@ fn collect_lines(th: f32, t: &[u32], lines: &mut [u32]) -> usize
 
 // The lines of s, and how many; t is scratch.
 pub fn find_lines(s: &[u32], t: &mut [u32], lines: &mut [u32]) -> usize
-    requires { ⌜ Scores (now s) × (length (now s) ≤ length (now t)) × (length (now s) ≤ length (now lines)) ⌝ }
+    requires { ⌜ InLimits (now s) × (length (now s) ≤ length (now t)) × (length (now s) ≤ length (now lines)) ⌝ }
     ensures { λ r. ⌜ Listed (linesOf (now (s .entry))) r (now (lines .entry)) (now (lines .exit)) ⌝ }
 {
     smooth_into(s, t);

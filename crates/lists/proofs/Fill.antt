@@ -1,12 +1,12 @@
 -- A loop that fills a list from the front by a rule: what it has done after k turns, and one turn more. Assumes nothing.
 use Prim.Native.Nat.{ℕ, zero, suc, _+_, _-_, _<_, _≤_}
 use mathlib.Core.Path.{_≡_, refl, ap, _∙_}
-use mathlib.Core.List.{List, [], _∷_, _++_}
-use native.Mathlib.Nat.{not-suc-le-zero, le-of-suc-le-suc}
+use mathlib.Core.List.{List, [], _∷_, _++_, append-nil}
+use native.Mathlib.Nat.{not-suc-le-zero, le-of-suc-le-suc, zero-add, suc-add}
 use native.Mathlib.Numerals.{add-one}
 use native.Mathlib.Omega.{arith}
 use lib.ListN.{length, set, drop, getD, length-set, List·getD-append}
-use lib.Seq.{getD-append-add, getD-drop}
+use lib.Seq.{drop-length, getD-append-add, getD-drop}
 use Rattle.lists.specs.Tab.{tabFrom, tab}
 
 module _ {A : Type 0} where
@@ -31,6 +31,17 @@ module _ {A : Type 0} where
   pub tab-same : (n : ℕ) (f g : ℕ → A) → ((k : ℕ) → k < n → f k ≡ g k) → tab n f ≡ tab n g
   tab-same n f g h = tabFrom-same 0 n f g (λ k a b. h k (omega arith))
 
+  pub tabFrom-shift : (from n : ℕ) (f : ℕ → A) → tabFrom (suc from) n f ≡ tabFrom from n (λ k. f (suc k))
+  tabFrom-shift from zero f = refl
+  tabFrom-shift from (suc n) f = ap (λ (l : List A). f (suc from) ∷ l) (tabFrom-shift (suc from) n f)
+
+  pub tab-add : (n m : ℕ) (f : ℕ → A) → tab (n + m) f ≡ tab n f ++ tab m (λ k. f (n + k))
+  tab-add zero m f = rw (zero-add m) (tab-same m f (λ k. f (0 + k)) (λ k h. ap f (omega arith)))
+  tab-add (suc n) m f =
+      let s : tab m (λ k. f (suc (n + k))) ≡ tab m (λ k. f (suc n + k)) =
+      tab-same m (λ k. f (suc (n + k))) (λ k. f (suc n + k)) (λ k h. ap f (omega arith)) in
+      rw (suc-add n m) (ap (λ (t : List A). f 0 ∷ t) (tabFrom-shift 0 (n + m) f ∙ tab-add n m (λ k. f (suc k)) ∙ rw (tabFrom-shift 0 n f, s)))
+
   fill-suc : (from n : ℕ) (f : ℕ → A) (d : List A) → n < length d → set (tabFrom from n f ++ drop n d) n (f (from + n)) ≡ tabFrom from (suc n) f ++ drop (suc n) d
   fill-suc from n f [] l = absurd (not-suc-le-zero l)
   fill-suc from zero f (x ∷ d) l = ap (λ (k : ℕ). f k ∷ d) (omega arith)
@@ -53,6 +64,10 @@ pub filled-more : {A : Type 0} {f : ℕ → A} {k : ℕ} {d out : List A} {v : A
 filled-more {f = f} {k = k} {d = d} {out = out} {v = v} h l e =
     let q : set out k v ≡ tab (k + 1) f ++ drop (k + 1) d = rw (h .is, e) (fill-step k f d l) in
     record { len = length-set out k v ∙ h .len; is = q }
+
+-- a list filled to its end
+pub filled-all : {A : Type 0} {f : ℕ → A} {n : ℕ} {d out : List A} → Filled f n d out → n ≡ length d → out ≡ tab (length d) f
+filled-all {f = f} {n = n} {d = d} h e = let q : drop n d ≡ [] = rw (e, drop-length d) in h .is ∙ rw (q, append-nil, e)
 
 -- what has been reached has its value, and what has not been reached is as it was
 pub tab-within : {A : Type 0} (z : A) (f : ℕ → A) (k r : ℕ) (rest : List A) → r < k → getD (tab k f ++ rest) r z ≡ f r

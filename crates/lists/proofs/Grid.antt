@@ -1,32 +1,22 @@
--- A grid row by row: one row more, and a loop over rows and columns that fills a list by a rule for each row and column. Assumes nothing.
-use Prim.Native.Nat.{ℕ, zero, suc, _+_, _*_, _/_, _%_, _<_}
+-- A grid row by row: where its rows end, one row more, and a loop over rows and columns that fills a list by a rule for each row and column. Assumes nothing.
+use Prim.Native.Nat.{ℕ, _+_, _*_, _/_, _%_, _≤_, _<_}
 use mathlib.Core.Path.{_≡_, refl, ap, _∙_}
 use mathlib.Core.List.{List, [], _∷_, _++_}
-use native.Mathlib.Nat.{add-zero, add-mul, one-mul}
+use native.Mathlib.Nat.{add-zero, add-mul, suc-mul, one-mul, mul-le-mul-right}
 use native.Mathlib.Omega.{arith}
 use lib.Arith.{digits-div, digits-mod}
 use lib.ListN.{length, set, length-set}
-use Rattle.lists.specs.Tab.{tabFrom, tab, grid}
-use Rattle.lists.proofs.Fill.{Filled, filled-more, tab-same}
+use Rattle.lists.specs.Tab.{tab, grid}
+use Rattle.lists.proofs.Fill.{Filled, filled-more, tab-same, tab-add}
+
+-- rows i to i + w of n rows end within them
+pub rows-fit : (i w n s : ℕ) → i + w ≤ n → i * s + w * s ≤ n * s
+rows-fit i w n s h = omega (arith, mul-le-mul-right s h, add-mul i w s)
+
+pub row-fits : (i n s : ℕ) → i < n → i * s + s ≤ n * s
+row-fits i n s h = omega (arith, mul-le-mul-right s h, suc-mul i s)
 
 module _ {A : Type 0} where
-  tabFrom-add : (from n m : ℕ) (f : ℕ → A) → tabFrom from (n + m) f ≡ tabFrom from n f ++ tabFrom (from + n) m f
-  tabFrom-add from zero m f = let e : zero + m ≡ m = omega arith in let d : from + zero ≡ from = omega arith in rw (e, d)
-  tabFrom-add from (suc n) m f =
-      let e : suc n + m ≡ suc (n + m) = omega arith in
-      let d : from + suc n ≡ suc from + n = omega arith in
-      rw (e, d, tabFrom-add (suc from) n m f)
-
-  tabFrom-shift : (from n : ℕ) (f : ℕ → A) → tabFrom from n f ≡ tab n (λ k. f (from + k))
-  tabFrom-shift from n f = at 0 n from (omega arith)
-    where
-      at : (k n j : ℕ) → j ≡ from + k → tabFrom j n f ≡ tabFrom k n (λ k. f (from + k))
-      at k zero j e = refl
-      at k (suc n) j e = rw (at (suc k) n (suc j) (omega arith), e)
-
-  pub tab-add : (n m : ℕ) (f : ℕ → A) → tab (n + m) f ≡ tab n f ++ tab m (λ k. f (n + k))
-  tab-add n m f = let e : 0 + n ≡ n = omega arith in tabFrom-add 0 n m f ∙ rw (e, tabFrom-shift n m f)
-
   pub tab-more : (n : ℕ) (f : ℕ → A) → tab (n + 1) f ≡ tab n f ++ (f n ∷ [])
   tab-more n f = tab-add n 1 f ∙ rw (add-zero n)
 

@@ -1,9 +1,19 @@
--- A point as a number. Assumes nothing.
-use Prim.Native.Nat.{_≤_}
+-- A point as a number, and the flipped picture. Assumes nothing.
+use Prim.Native.Nat.{ℕ, _*_, _≤_}
+use mathlib.Core.Path.{_≡_, ap, fun-ext}
 use mathlib.Core.Bool.{Bool, true, false}
+use mathlib.Core.List.{List}
+use native.Mathlib.Nat.{add-comm}
 use native.Mathlib.Omega.{arith}
-use Rattle.lists.specs.Picture.{bit}
+use lib.Dec.{eqb}
+use lib.ListN.{getD}
+use Rattle.lists.specs.Picture.{bit, flip, points}
 
 pub bit-le : (b : Bool) → bit b ≤ 1
 bit-le true = omega arith
 bit-le false = omega arith
+
+-- the flipped picture is the one with its steps exchanged
+pub flip-points : (down across : ℕ) (e : List ℕ) → flip (points down across e) ≡ points across down e
+unfolding points
+flip-points down across e = fun-ext (λ i. fun-ext (λ j. ap (λ (k : ℕ). eqb (getD e k 0) 1) (add-comm (j * down) (i * across))))

@@ -2,7 +2,6 @@
 use Prim.Native.Nat.{ℕ, _-_, _*_, _≤_}
 use mathlib.Core.Path.{_≡_, refl, ap, _∙_}
 use mathlib.Core.List.{List, _++_}
-use native.Mathlib.Nat.{mul-le-mul}
 use native.Mathlib.Omega.{arith}
 use lib.Ieee.{Float}
 use lib.ListN.{length, take, length-append}
@@ -15,12 +14,8 @@ use Rattle.edges.specs.Edges.{AllPlain, threshold, marks, edges}
 use Rattle.edges.proofs.Laws.{all-plain, edges-of-gradients, length-edges}
 use Rattle.locate.specs.Steps.{Fit}
 
--- a picture is smaller than its screen
-pub smaller : (h w : ℕ) → (h - 2) * (w - 2) ≤ h * w
-smaller h w = mul-le-mul {n₁ = h - 2} {m₁ = w - 2} {n₂ = h} {m₂ = w} (omega arith) (omega arith)
-
-pub within : {h w : ℕ} {planes : List Float} → Fit h w planes → Inside leastPlaneSide h w
-within {h} {w} f = inside leastPlaneSide h w (f .sides)
+pub inside-of : {h w : ℕ} {planes : List Float} → Fit h w planes → Inside leastPlaneSide h w
+inside-of {h} {w} f = inside leastPlaneSide h w (f .sides)
 
 front-in : {A : Type 0} (front rest whole : List A) (n : ℕ) → length front ≡ n → whole ≡ front ++ rest → n ≤ length whole
 front-in front rest whole n l e = omega (arith, l, ap length e, length-append front rest)

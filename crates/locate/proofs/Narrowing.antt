@@ -3,7 +3,6 @@ use Prim.Native.Nat.{ℕ, zero, suc, _+_, _-_, _*_, _/_, _≤_}
 use mathlib.Core.Path.{_≡_, refl, _∙_}
 use mathlib.Core.Bool.{Bool, true, false, cond, true≢false}
 use mathlib.Core.List.{List}
-use native.Mathlib.Nat.{mul-le-mul}
 use native.Mathlib.Numerals.{add-one}
 use native.Mathlib.Omega.{arith}
 use borrow.Author.Tests.{leb-false, le-ltb}
@@ -11,24 +10,19 @@ use lib.Dec.{leb}
 use lib.Ieee.{Float}
 use lib.ListN.{length}
 use Rattle.board.specs.Board.{leastPlaneSide, outside, sidesOutside}
-use Rattle.board.proofs.Sides.{Inside, inside, neither}
+use Rattle.board.proofs.Sides.{neither}
 use Rattle.narrow.specs.Narrow.{narrow, UnitPlanes}
-use Rattle.narrow.proofs.Laws.{narrow-length, narrow-units}
+use Rattle.narrow.proofs.Laws.{smaller, narrow-length, narrow-units}
 use Rattle.bounds.specs.declared.Bounds.{Bounds}
 use Rattle.bounds.proofs.Laws.{around}
 use Rattle.locate.specs.Search.{pictureOf, scanOf, thin, small, searched, lastOf}
 use Rattle.locate.specs.Steps.{Fit, Narrows}
+use Rattle.locate.proofs.Looking.{inside-of}
 
 -- sides within the limits pass the test of them
 pub sides-pass : (least h w : ℕ) → least ≤ h → h ≤ 4096 → least ≤ w → w ≤ 4096 → sidesOutside least h w ≡ false
 unfolding sidesOutside outside
 sides-pass least h w a b c d = rw (le-ltb h least a, le-ltb 4096 h b, le-ltb w least c, le-ltb 4096 w d)
-
-pub inside-of : {h w : ℕ} {planes : List Float} → Fit h w planes → Inside leastPlaneSide h w
-inside-of {h} {w} f = inside leastPlaneSide h w (f .sides)
-
-pub shrunk : (h w : ℕ) → h / 3 * (w / 3) ≤ h * w
-shrunk h w = mul-le-mul {n₁ = h / 3} {m₁ = w / 3} {n₂ = h} {m₂ = w} (omega arith) (omega arith)
 
 -- a picture that is not small
 pub large : (h w : ℕ) → small h w ≡ false → (67 ≤ h) × (67 ≤ w)
@@ -43,7 +37,7 @@ unit-planes f = record { there = f .there; units = f .units }
 -- narrowed planes that are not too small are fit again
 pub fit-next : {h w : ℕ} {planes : List Float} → Fit h w planes → 67 ≤ h / 3 → 67 ≤ w / 3 → Fit (h / 3) (w / 3) (narrow 3 h w planes)
 fit-next {h} {w} {planes} f a b =
-    let s = inside leastPlaneSide h w (f .sides) in
+    let s = inside-of f in
     let u = narrow-units 3 h w planes (omega arith) (unit-planes f) in
     record { sides = sides-pass leastPlaneSide (h / 3) (w / 3) (omega arith) (omega (arith, s .high-h)) (omega arith) (omega (arith, s .high-w)); there = u .there; units = u .units }
 
@@ -105,7 +99,7 @@ module _ {height width : ℕ} {start : List Float} {h w : ℕ} {b : Bounds} {n :
         counted = omega (arith, g .counted, m .1);
         low-h = omega (arith, l .0);
         low-w = omega (arith, l .1);
-        area = omega (arith, g .area, shrunk h w);
+        area = omega (arith, g .area, smaller 3 h w);
         fit = fit-next (g .fit) (l .0) (l .1);
         bounds-are = e;
         long = narrow-length 3 h w planes (g .fit .there) ∙ g .long;

@@ -7,13 +7,13 @@ use lib.ListN.{length, getD}
 use Rattle.strips.specs.Strip.{places, score, scores}
 use Rattle.strips.proofs.Walks.{no-better, attained}
 use Rattle.strips.proofs.Scores.{length-places, score-at, place-lane}
-use Rattle.lines.specs.Lines as S
+use Rattle.lines.specs.Lines.{InLimits}
 use Rattle.reading.specs.declared.Quarters.the-variants.{Read}
 use Rattle.reading.specs.Reading.{pitchOf, quartersOf}
 use Rattle.reading.proofs.Laws.{won}
 use Rattle.locate.specs.Promise.{Unbeaten, placeAt}
 
-pub unbeaten : (E : ℕ → ℕ → Bool) (from to c₁ c₂ : ℕ) (entry : ℕ → ℕ) (q offset count voted : ℕ) → c₁ + 4 ≤ c₂ → S.Scores (scores E from to c₁ c₂)
+pub unbeaten : (E : ℕ → ℕ → Bool) (from to c₁ c₂ : ℕ) (entry : ℕ → ℕ) (q offset count voted : ℕ) → c₁ + 4 ≤ c₂ → InLimits (scores E from to c₁ c₂)
     → ((i : ℕ) → i < c₂ - c₁ → entry i ≡ getD (scores E from to c₁ c₂) i 0)
     → quartersOf (scores E from to c₁ c₂) ≡ Read q offset count voted
     → Unbeaten E from to c₁ c₂ (scores E from to c₁ c₂) entry offset q voted (pitchOf q)

@@ -1,5 +1,5 @@
 -- What narrowing leaves, over the factor f: as many values as before, and planes of units that can be narrowed again. Assumes nothing.
-use Prim.Native.Nat.{ℕ, zero, suc, _+_, _-_, _*_, _/_, _%_, _≤_, _<_}
+use Prim.Native.Nat.{ℕ, zero, suc, _+_, _*_, _/_, _%_, _≤_, _<_}
 use mathlib.Core.Path.{_≡_, ap, _∙_}
 use mathlib.Core.Bool.{true}
 use mathlib.Core.List.{List}
@@ -10,7 +10,7 @@ use lib.ListN.{length, length-append, length-drop, length-replicate}
 use lib.Seq.{take-at}
 use Rattle.lists.specs.Tab.{tabFrom, grid}
 use Rattle.lists.proofs.Fill.{length-tabFrom}
-use Rattle.rank.proofs.Member.{Each, entry-each}
+use Rattle.rank.proofs.Members.{Each, entry-each}
 use Rattle.board.specs.Screen.{Screen, packed, view}
 use Rattle.gradient.specs.Gradient.{allUnits}
 use Rattle.narrow.specs.Narrow.{UnitPlanes, block, median, narrowed, narrow}
@@ -48,7 +48,7 @@ module _ (P : Float → Type 0) where
       (each-grid f f (λ u v. a (i * f + u) (j * f + v)) h)
       (rw (length-tabFrom) (omega (arith, mul-pos l l)))
 
-smaller : (f h w : ℕ) → h / f * (w / f) ≤ h * w
+pub smaller : (f h w : ℕ) → h / f * (w / f) ≤ h * w
 smaller f h w = mul-le-mul (div-le-self h f) (div-le-self w f)
 
 pub narrow-length : (f h w : ℕ) (planes : List Float) → 3 * (h * w) ≤ length planes → length (narrow f h w planes) ≡ length planes

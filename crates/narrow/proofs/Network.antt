@@ -13,10 +13,10 @@ use lib.Ieee.{Float, nan, binary32, fits, ofBits, toBits}
 use lib.Ieee.Bits.{ofBits-toBits}
 use lib.ListN.{length}
 use Rattle.lists.specs.Tab.{grid}
-use Rattle.rank.specs.Rank.{entry, countAtMost}
+use Rattle.rank.specs.Rank.{countAtMost}
 use Rattle.rank.proofs.Counts.{count-le}
 use Rattle.rank.proofs.Entry.{entry-key, entry-leb}
-use Rattle.rank.proofs.Member.{Each, entry-each}
+use Rattle.rank.proofs.Members.{Each, entry-each}
 use Rattle.board.proofs.Sides.{both}
 use Rattle.binary32.specs.Binary32.{larger, lesser}
 use Rattle.binary32.proofs.Values.{T-of}

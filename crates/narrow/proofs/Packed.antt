@@ -2,16 +2,17 @@
 use Prim.Native.Nat.{ℕ, _+_, _-_, _*_, _/_, _%_, _<_, _≤_}
 use mathlib.Core.Path.{_≡_, ap, _∙_}
 use mathlib.Core.List.{List, _++_}
-use native.Mathlib.Nat.{mul-comm, mul-assoc, mul-le-mul, mul-le-mul-right, add-mul, one-mul, div-div-eq-div-mul, div-le-self}
+use native.Mathlib.Nat.{mul-comm, mul-assoc, mul-le-mul, add-mul, one-mul, div-div-eq-div-mul, div-le-self}
 use native.Mathlib.Omega.{arith}
 use lib.Arith.{digits-div, digits-mod, mod-mul}
 use lib.Ieee.{Float}
-use lib.ListN.{length, take, drop}
-use lib.Seq.{take-at, drop-at, drop-drop}
+use lib.ListN.{length, take, drop, length-drop}
+use lib.Seq.{take-at}
 use borrow.Rule.Slice.PartMut.{midOf, putMid}
 use Rattle.lists.specs.Tab.{tab}
 use Rattle.lists.proofs.Fill.{Filled, tab-same, length-tabFrom}
-use Rattle.lists.proofs.Part.{filled-part, mid-rest, put-rest}
+use Rattle.lists.proofs.Grid.{row-fits}
+use Rattle.lists.proofs.Part.{filled-part, mid-rest, put-behind}
 use Rattle.board.specs.Screen.{Screen, packed}
 
 -- the value at place q of the packed planes
@@ -42,9 +43,10 @@ pub filled-row : (s : Screen) (r : ℕ) {d out : List Float} (row : List Float) 
     r * s .width + s .width ≤ length d →
     row ≡ tab (s .width) (s .px (r / s .height) (r % s .height)) ++ drop (s .width) (midOf (r * s .width) (length out - r * s .width) out) →
     Filled (cell s) ((r + 1) * s .width) d (putMid (r * s .width) (length out - r * s .width) out row)
-filled-row s r row l h b e =
+filled-row s r {d} {out} row l h b e =
     let n : (r + 1) * s .width ≡ r * s .width + s .width = omega (arith, add-mul r 1 (s .width), one-mul (s .width)) in
-    rw n (filled-part (s .width) row h b (rw (row-of-cells s r l) e))
+    let k = length out - r * s .width in
+    rw n (filled-part k (s .width) row h (simp (mid-rest, length-drop) (omega (arith, h .len))) (rw (row-of-cells s r l) e))
 
 pub length-packed : (s : Screen) → length (packed s) ≡ 3 * (s .height * s .width)
 length-packed s = length-tabFrom 0 (3 * (s .height * s .width)) (cell s)
@@ -53,9 +55,8 @@ length-packed s = length-tabFrom 0 (3 * (s .height * s .width)) (cell s)
 pub shrinks : (h w : ℕ) → 3 * (h / 3 * (w / 3)) ≤ h * w
 shrinks h w = rw (← mul-assoc) (mul-le-mul (omega arith) (div-le-self w 3))
 
-pub row-fits : (h w : ℕ) {r : ℕ} → r < 3 * (h / 3) → r * (w / 3) + w / 3 ≤ h * w
-row-fits h w {r} l =
-    omega (arith, mul-le-mul-right (w / 3) l, add-mul r 1 (w / 3), one-mul (w / 3), mul-assoc 3 (h / 3) (w / 3), shrinks h w)
+pub row-in : (h w : ℕ) {r : ℕ} → r < 3 * (h / 3) → r * (w / 3) + w / 3 ≤ h * w
+row-in h w {r} l = omega (arith, row-fits r (3 * (h / 3)) (w / 3) l, mul-assoc 3 (h / 3) (w / 3), shrinks h w)
 
 -- p in front of the scratch is copied to the front of the planes, and m zeros come after it
 pub laid-out : (n m : ℕ) (p zeros planes scratch : List Float) {filled copied rest : List Float} → length p ≡ n →
@@ -65,4 +66,4 @@ pub laid-out : (n m : ℕ) (p zeros planes scratch : List Float) {filled copied 
     putMid n (length copied - n) copied rest ≡ p ++ (zeros ++ drop (n + m) planes)
 laid-out n m p zeros planes scratch {filled} {copied} {rest} len a b c =
     let is : copied ≡ p ++ drop n planes = b ∙ rw (a, take-at p (drop n scratch) n len) in
-    put-rest n copied rest ∙ rw (c, mid-rest n copied, is, take-at p (drop n planes) n len, drop-at p (drop n planes) n len, drop-drop)
+    put-behind n m p zeros planes len is c

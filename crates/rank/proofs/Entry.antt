@@ -1,5 +1,5 @@
 -- Entry j of a sorted list by counting: its key is at most v exactly where more than j entries are. Assumes nothing.
-use Prim.Native.Nat.{ℕ, _+_, _-_, _≤_, _<_}
+use Prim.Native.Nat.{ℕ, _+_, _≤_, _<_}
 use mathlib.Core.Path.{_≡_, refl, sym, _∙_}
 use mathlib.Core.Bool.{Bool, true, false}
 use mathlib.Core.List.{List}
@@ -9,7 +9,8 @@ use borrow.Author.Tests.{leb-true, le-leb, lt-leb, lt-ltb, ltb-true, ltb-false}
 use lib.Dec.{leb, ltb}
 use lib.ListN.{length, List·getD-eq-default}
 use Rattle.rank.specs.Rank.{sort, entry, countAtMost}
-use Rattle.rank.proofs.Sorted.{length-sort, sorted-sort, count-sort, above, below}
+use Rattle.rank.proofs.Members.{length-sort}
+use Rattle.rank.proofs.Sorted.{sorted-sort, count-sort, above, below}
 
 module _ {A : Type 0} (key : A → ℕ) (d : A) where
   pub at-least : (v : ℕ) (l : List A) (j : ℕ) → j < length l → j < countAtMost key v l → key (entry key d l j) ≤ v

@@ -1,5 +1,4 @@
 pub mod Counts
 pub mod Entry
-pub mod Member
 pub mod Members
 pub mod Sorted

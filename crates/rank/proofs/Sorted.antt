@@ -1,4 +1,4 @@
--- Sorting keeps the entries, and puts them in order: what counts tell of the places of a sorted list. Assumes nothing.
+-- Sorting puts the entries in order: what counts tell of the places of a sorted list. Assumes nothing.
 use Prim.Native.Nat.{ℕ, zero, suc, _+_, _≤_, _<_}
 use mathlib.Core.Path.{_≡_, refl, ap, _∙_}
 use mathlib.Core.Bool.{Bool, true, false, cond}
@@ -8,12 +8,12 @@ use borrow.Author.Tests.{leb-true, leb-false, le-leb, lt-leb}
 use lib.ListN.{length, getD}
 use lib.Dec.{leb}
 use Rattle.rank.specs.Rank.{insert, sort, countAtMost}
+use Rattle.rank.proofs.Members.{Each, each-at, each-insert}
 
 module _ {A : Type 0} (key : A → ℕ) where
   -- every entry's key is at least b
   abbrev pub Low : ℕ → List A → Type 0
-  Low b [] = Unit
-  Low b (x ∷ l) = (b ≤ key x) × Low b l
+  Low b = Each (λ x. b ≤ key x)
 
   -- rising: no entry is below the one before it
   abbrev pub Sorted : List A → Type 0
@@ -24,21 +24,13 @@ module _ {A : Type 0} (key : A → ℕ) where
   low-less [] h w = tt
   low-less (x ∷ l) h w = (omega (arith, w .0), low-less l h (w .1))
 
-  low-insert : (b : ℕ) (x : A) (l : List A) → b ≤ key x → Low b l → Low b (insert key x l)
-  low-insert b x [] h w = (h, tt)
-  low-insert b x (y ∷ l) h w = at (low-insert b x l h (w .1)) (leb (key x) (key y))
-    where
-      at : Low b (insert key x l) → (t : Bool) → Low b (cond t (x ∷ y ∷ l) (y ∷ insert key x l))
-      at ih true = (h, w)
-      at ih false = (w .0, ih)
-
   sorted-insert : (x : A) (l : List A) → Sorted l → Sorted (insert key x l)
   sorted-insert x [] w = (tt, tt)
   sorted-insert x (y ∷ l) w = at (sorted-insert x l (w .1)) (leb (key x) (key y)) refl
     where
       at : Sorted (insert key x l) → (t : Bool) → leb (key x) (key y) ≡ t → Sorted (cond t (x ∷ y ∷ l) (y ∷ insert key x l))
       at ih true e = ((leb-true _ _ e, low-less l (leb-true _ _ e) (w .0)), w)
-      at ih false e = (low-insert (key y) x l (omega (arith, leb-false (key x) (key y) e)) (w .0), ih)
+      at ih false e = (each-insert key (λ z. key y ≤ key z) x l (omega (arith, leb-false (key x) (key y) e)) (w .0), ih)
 
   pub sorted-sort : (l : List A) → Sorted (sort key l)
   sorted-sort [] = tt
@@ -56,32 +48,15 @@ module _ {A : Type 0} (key : A → ℕ) where
   count-sort v [] = refl
   count-sort v (x ∷ l) = count-insert v x (sort key l) ∙ ap (λ (n : ℕ). cond (leb (key x) v) 1 0 + n) (count-sort v l)
 
-  length-insert : (x : A) (l : List A) → length (insert key x l) ≡ suc (length l)
-  length-insert x [] = refl
-  length-insert x (y ∷ l) = at (length-insert x l) (leb (key x) (key y))
-    where
-      at : length (insert key x l) ≡ suc (length l) → (t : Bool) → length (cond t (x ∷ y ∷ l) (y ∷ insert key x l)) ≡ suc (suc (length l))
-      at ih true = refl
-      at ih false = ap suc ih
-
-  pub length-sort : (l : List A) → length (sort key l) ≡ length l
-  length-sort [] = refl
-  length-sort (x ∷ l) = length-insert x (sort key l) ∙ ap suc (length-sort l)
-
   low-none : (b v : ℕ) (l : List A) → Low b l → v < b → countAtMost key v l ≡ 0
   low-none b v [] w h = refl
   low-none b v (x ∷ l) w h = let n : v < key x = omega (arith, w .0) in rw (lt-leb (key x) v n, low-none b v l (w .1) h)
-
-  low-at : (b : ℕ) (l : List A) (j : ℕ) (d : A) → Low b l → j < length l → b ≤ key (getD l j d)
-  low-at b [] j d w h = absurd (omega arith)
-  low-at b (x ∷ l) zero d w h = w .0
-  low-at b (x ∷ l) (suc j) d w h = low-at b l j d (w .1) (omega arith)
 
   pub above : (v : ℕ) (s : List A) (j : ℕ) (d : A) → Sorted s → j < length s → key (getD s j d) ≤ v → j < countAtMost key v s
   above v [] j d w h k = absurd (omega arith)
   above v (x ∷ s) zero d w h k = rw (le-leb (key x) v k) (omega arith)
   above v (x ∷ s) (suc j) d w h k =
-      let l : key x ≤ v = omega (arith, low-at (key x) s j d (w .0) (omega arith)) in
+      let l : key x ≤ v = omega (arith, each-at (λ z. key x ≤ key z) s j d (w .0) (omega arith)) in
       rw (le-leb (key x) v l) (omega (arith, above v s j d (w .1) (omega arith) k))
 
   pub below : (v : ℕ) (s : List A) (j : ℕ) (d : A) → Sorted s → j < length s → v < key (getD s j d) → countAtMost key v s ≤ j

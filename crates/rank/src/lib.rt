@@ -1,4 +1,4 @@
-// Entry j of a list sorted rising, found by counting: no sort, no copy. Definitions: specs/Rank. Laws for callers: proofs/Entry, proofs/Member.
+// Entry j of a list sorted rising, found by counting: no sort, no copy. Definitions: specs/Rank. Laws for callers: proofs/Entry, proofs/Members, proofs/Counts.
 ghost use mathlib.Core.Path.{_≡_};
 ghost use mathlib.Core.List.{[], _∷_};
 ghost use Prim.Native.Nat.{_≤_, _^_};

@@ -4,20 +4,11 @@ use mathlib.Core.Path.{_≡_}
 use mathlib.Core.List.{List}
 use native.Mathlib.Omega.{arith}
 use borrow.Author.Tests.{eq-eqb, ne-eqb, le-leb, lt-leb, lt-ltb, le-ltb}
-use lib.Dec.{T}
-use lib.IntN.{pos}
-use lib.Ieee.{binary32, inFloat}
 use lib.ListN.{length}
-use Rattle.binary32.proofs.Values.{T-of}
-use Rattle.lines.specs.Lines.{largest, Scores, linesOf, wideGaps}
+use Rattle.lines.specs.Lines.{largest, InLimits, linesOf, wideGaps}
 use Rattle.reading.specs.declared.Reading.the-variants as Of
 use Rattle.reading.specs.declared.Quarters.the-variants as In
 use Rattle.reading.specs.Reading.{gapOf, remaining, accepted, quartersOf, pitched, readingOf}
-
--- whole numbers of this size are exact
-pub exact : (n : ℕ) → n ≤ 4097 → T (inFloat binary32 (pos n))
-unfolding inFloat
-exact n h = T-of (le-leb n 16777216 (omega arith))
 
 -- a list that is fit
 module _ (s : List ℕ) where
@@ -51,6 +42,6 @@ module _ (s : List ℕ) (room : ℕ) where
   unfolding readingOf
   too-high a b c d = rw (le-ltb (length s) 4 a, le-ltb 4096 (length s) b, le-ltb room (4 * length s) c, lt-ltb 4096 (largest s) d)
 
-  pub fit : Scores s → 4 * length s ≤ room → pitched (quartersOf s) ≡ readingOf s room
+  pub fit : InLimits s → 4 * length s ≤ room → pitched (quartersOf s) ≡ readingOf s room
   unfolding readingOf
   fit f c = rw (le-ltb (length s) 4 (f .least), le-ltb 4096 (length s) (f .most), le-ltb room (4 * length s) c, le-ltb 4096 (largest s) (f .entries))

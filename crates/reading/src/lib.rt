@@ -3,7 +3,7 @@
 ghost use mathlib.Core.Path.{_≡_};
 ghost use Prim.Native.Nat.{ℕ, _+_, _-_, _*_, _≤_, _<_};
 ghost use lib.ListN.{length, getD};
-ghost use Rattle.lines.specs.Lines.{largest, Scores, dropFirst, dropLast};
+ghost use Rattle.lines.specs.Lines.{largest, InLimits, dropFirst, dropLast};
 ghost use Rattle.reading.specs.Reading.{pitchOf, countOf, accepted, quartersOf, pitched, readingOf, Readable, Pitched};
 
 // A pitch with an offset, a count and the votes, or a refusal.
@@ -74,7 +74,7 @@ fn read_lines(lines: &[u32], e: u32, row: &mut [u32]) -> Quarters
 
 // The lines are kept in an array of their own; the scratch serves the smoothed list, the gaps and the row of votes, one after the other.
 pub fn quarters_of(s: &[u32], scratch: &mut [u32]) -> Quarters
-    requires { ⌜ Scores (now s) × (4 * length (now s) ≤ length (now scratch)) ⌝ }
+    requires { ⌜ InLimits (now s) × (4 * length (now s) ≤ length (now scratch)) ⌝ }
     ensures { λ r. ⌜ r ≡ quartersOf (now (s .entry)) ⌝ }
 {
     let mut found = [0u32; LONGEST];

@@ -12,7 +12,7 @@ use Rattle.board.specs.Screen.{view}
 use Rattle.sample.specs.Sample.{rowAt, columnAt}
 use Rattle.sample.specs.Copy.{planeValue}
 use Rattle.sample.proofs.Answers.{Fit}
-use Rattle.sample.proofs.Copies.{row-in}
+use Rattle.lists.proofs.Grid.{row-fits}
 
 -- the cell's value at place m of the output
 abbrev pub cellValue : Board → List Float → ℕ → ℕ → ℕ → ℕ → Float
@@ -35,7 +35,7 @@ module _ {b : Board} {x y size room : ℕ} {rows columns : List ℕ} (planes : L
       → k * (b .height * b .width) + getD rows i 0 * b .width + getD columns j 0 < length planes
   place-in k i j long k-in i-in j-in =
       rw (p .rows-are i i-in, p .columns-are j j-in)
-      (omega (arith, digits-lt (p .fit .rows i i-in) (p .fit .columns j j-in), row-in (b .height * b .width) k-in))
+      (omega (arith, digits-lt (p .fit .rows i i-in) (p .fit .columns j j-in), row-fits _ _ (b .height * b .width) k-in))
 
   pub value-is : (k n : ℕ) → n < size * size
       → planeValue planes (k * (b .height * b .width)) (b .width) rows columns size n ≡ cellValue b planes x y size (k * (size * size) + n)

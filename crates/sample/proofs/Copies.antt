@@ -1,18 +1,13 @@
 -- A list that is filled from the front, one value or one row at a time. Assumes nothing.
-use Prim.Native.Nat.{ℕ, _+_, _*_, _≤_, _<_}
+use Prim.Native.Nat.{ℕ, _+_, _*_, _<_}
 use mathlib.Core.Path.{_≡_, refl, ap, _∙_}
 use mathlib.Core.List.{List, _++_}
-use native.Mathlib.Nat.{add-mul, one-mul, add-zero, mul-le-mul-right}
+use native.Mathlib.Nat.{add-mul, one-mul, add-zero}
 use native.Mathlib.Omega.{arith}
 use lib.ListN.{length, set, drop, length-set}
 use Rattle.lists.specs.Tab.{tab}
 use Rattle.lists.proofs.Fill.{filled-none, filled-more}
 use Rattle.sample.specs.Copy.{Extends}
-
--- the part that row i takes
-pub row-in : {i n : ℕ} (size : ℕ) → i < n → i * size + size ≤ n * size
-row-in {i} {n} size b =
-    let next : i + 1 ≤ n = omega arith in omega (arith, add-mul i 1 size, one-mul size, mul-le-mul-right size next)
 
 module _ {A : Type 0} (from : ℕ) (value : ℕ → A) where
   pub extends-none : {out : List A} → Extends 0 from value out out

@@ -8,12 +8,12 @@ use native.Mathlib.Nat.{not-suc-le-zero, le-of-suc-le-suc, mul-le-mul-right, add
 use native.Mathlib.Numerals.{add-one}
 use native.Mathlib.Omega.{arith}
 use lib.Dec.{eqb}
-use Rattle.lists.specs.Picture.{bit}
+use Rattle.lists.specs.Picture.{bit, points}
+use Rattle.lists.proofs.Picture.{bit-le}
 use Rattle.strips.specs.declared.Lanes.{Lanes}
-use Rattle.lists.specs.Picture.{points}
 use Rattle.strips.specs.Strip.{Place, at, onward, least, onStrip, score}
 use Rattle.strips.specs.States.{Holds, Below, unset, Advanced, Walked}
-use Rattle.strips.proofs.Walks.{bit-small, least-stays}
+use Rattle.strips.proofs.Walks.{least-stays}
 
 -- the point of lane j is in the picture if that of lane 4 is
 pub lane-in : (o across j n : ℕ) → o + 4 * across < n → j ≤ 4 → o + j * across < n
@@ -54,7 +54,7 @@ sideways-holds v n cost l h =
 
 -- a point adds at most 1 to a cost
 pub below-more : (e : List ℕ) (o across n : ℕ) (cost : ℕ → ℕ) → Below n cost → Below (n + 1) (λ j. cost j + unset e (o + j * across))
-below-more e o across n cost l j h = omega (arith, l j h, bit-small (eqb (getD e (o + j * across) 0) 1))
+below-more e o across n cost l j h = omega (arith, l j h, bit-le (not (eqb (getD e (o + j * across) 0) 1)))
 
 -- what the target lane holds after the last step is 5 more than the score
 pub lane-score : (E : ℕ → ℕ → Bool) (from to : ℕ) (p : Place) (x : ℕ) →

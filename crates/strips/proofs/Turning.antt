@@ -1,26 +1,19 @@
 -- A picture turned into scratch: bytes copied one by one, a row of scratch at a time, some rows of the picture at a time. Assumes nothing.
 use Prim.Native.Nat.{ℕ, _+_, _-_, _*_, _/_, _%_, _≤_, _<_}
-use mathlib.Core.Path.{_≡_, refl, sym, ap, _∙_, fun-ext}
+use mathlib.Core.Path.{_≡_, refl, sym, ap, _∙_}
 use mathlib.Core.Bool.{Bool, true, false}
 use mathlib.Core.List.{List}
-use native.Mathlib.Nat.{not-suc-le-zero, zero-add, add-mul, suc-mul, mul-le-mul-right, div-lt-iff-lt-mul, div-add-mod', mod-lt}
+use native.Mathlib.Nat.{not-suc-le-zero, zero-add, add-mul, div-lt-iff-lt-mul, div-add-mod', mod-lt}
 use native.Mathlib.Omega.{arith}
 use borrow.Author.Tests.{eqb-true, eqb-false, ltb-true, ltb-false}
 use lib.Arith.{digits-lt, digits-div, digits-mod}
 use lib.Dec.{eqb, ltb}
 use lib.ListN.{length, getD, set, take, length-set, List·getD-eq-default}
 use lib.Seq.{getD-set-same, getD-set-other, getD-take, length-take-le}
-use Rattle.lists.specs.Picture.{points, flip}
+use Rattle.lists.specs.Picture.{points}
 use Rattle.strips.specs.Strip.{at, onStrip, score}
 use Rattle.strips.specs.States.{Marks, Copied, Turned}
 use Rattle.strips.proofs.Walks.{least-same}
-
--- rows i to i + w of n rows end within them
-pub rows-fit : (i w n s : ℕ) → i + w ≤ n → i * s + w * s ≤ n * s
-rows-fit i w n s h = omega (arith, mul-le-mul-right s h, add-mul i w s)
-
-pub row-fits : (i n s : ℕ) → i < n → i * s + s ≤ n * s
-row-fits i n s h = omega (arith, mul-le-mul-right s h, suc-mul i s)
 
 -- a place in rows of b is in one row, at one column
 same-row : (b j d k f : ℕ) → d < b → f < b → j * b + d ≡ k * b + f → j ≡ k
@@ -109,12 +102,6 @@ module _ {e : List ℕ} {first stride : ℕ} where
       go false z =
           let l = ltb-false k (n * b) z in
           rw (List·getD-eq-default (take (n * b) t) 0 {n = k} (rw (length-take-le (n * b) t h) l)) (omega arith)
-
--- the flipped picture of bytes has its two distances exchanged
-pub flip-points : (stride : ℕ) (e : List ℕ) → flip (points stride 1 e) ≡ points 1 stride e
-unfolding points
-flip-points stride e =
-    fun-ext (λ i. fun-ext (λ j. let q : j * stride + i * 1 ≡ i * 1 + j * stride = omega arith in rw q))
 
 -- b rows of a picture from row r on, turned: the points of its flipped picture from column `from` on
 module _ (e : List ℕ) (r stride from n b : ℕ) (s t : List ℕ) (u : Turned e (r * stride + from) stride n b 0 b s t) where

@@ -8,6 +8,7 @@ use native.Mathlib.Omega.{arith}
 use borrow.Author.Tests.{lt-ltb, ltb-true, ltb-false, eqb-true, eqb-false, le-leb, lt-leb, leb-true, leb-false}
 use lib.Dec.{ltb, leb, eqb}
 use Rattle.lists.specs.Picture.{bit}
+use Rattle.lists.proofs.Picture.{bit-le}
 use Rattle.strips.specs.Walk.{apart, Walk, ends, costOf, cost, ScoresAtMost, Scores}
 use Rattle.strips.specs.Strip.{Place, onward, least, onStrip, score}
 
@@ -125,10 +126,6 @@ module _ {n : ℕ} (w : Walk n) (j : ℕ) where
   abbrev walk-on : j ≤ 4 → apart (ends w) j ≤ 1 → Walk (suc n)
   walk-on l h = record { lane = longer; on-strip = λ t q. longer-on l t; near = longer-near h }
 
-pub bit-small : (b : Bool) → bit (not b) ≤ 1
-bit-small true = omega arith
-bit-small false = omega arith
-
 module _ (set : ℕ → ℕ → Bool) (k : ℕ) where
   least-most : (n : ℕ) (lane : ℕ → ℕ) →
       ((t : ℕ) → t ≤ n → lane t ≤ 4) → ((t : ℕ) → t < n → apart (lane t) (lane (suc t)) ≤ 1) → least set k n (lane n) ≤ costOf set k lane n
@@ -143,7 +140,7 @@ module _ (set : ℕ → ℕ → Bool) (k : ℕ) where
   least-stays zero j = omega arith
   least-stays (suc n) j =
       let paid : ℕ → ℕ = λ i. least set k n i + bit (not (set (suc n) i)) in
-      omega (arith, stay paid j, least-stays n j, bit-small (set (suc n) j))
+      omega (arith, stay paid j, least-stays n j, bit-le (not (set (suc n) j)))
 
   costOf-same : (n : ℕ) (f g : ℕ → ℕ) → ((t : ℕ) → t ≤ n → f t ≡ g t) → costOf set k f n ≡ costOf set k g n
   costOf-same zero f g h = rw (h 0 (omega arith))

@@ -1,6 +1,7 @@
 -- `bounds::pair_at` meets its contract: a point adds its bit.
 use native.Mathlib.Omega.{arith}
-use Rattle.bounds.proofs.Widening.{byte-bit, bit-le}
+use Rattle.lists.proofs.Picture.{bit-le}
+use Rattle.bounds.proofs.Widening.{byte-bit}
 use borrow.Author.Needs.{needs}
 use Rattle.bounds.proofs.pair_at.Statement.{statement}
 use Rattle.bounds.proofs.pair_at.Tie as tie

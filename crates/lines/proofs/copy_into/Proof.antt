@@ -1,11 +1,12 @@
 -- `lines::copy_into` meets its contract. The invariant: the first k entries are copied. What is left of the list falls.
 use denote.Ref.{now}
-use Rattle.lines.proofs.Smoothing.{tab-self}
 use Prim.Native.Nat.{_-_, _≤_}
 use mathlib.Core.Path.{_≡_, refl}
 use native.Mathlib.Omega.{arith}
 use lib.ListN.{length, getD}
+use lib.Seq.{take-length}
 use Rattle.lists.proofs.Fill.{Filled, filled-none, filled-more}
+use Rattle.lists.proofs.Part.{tab-take}
 use borrow.Author.Needs.{needs}
 use Rattle.lines.proofs.copy_into.Statement.{statement}
 use Rattle.lines.proofs.copy_into.Tie as tie
@@ -49,7 +50,7 @@ returns : tie.Need-returns Inv-loop μ-loop
 returns c =
     let s = now (c .before .before .args .s) in
     let e : c .before .loop .k ≡ length s = omega arith in
-    rw (e, tab-self s) at (c .before .loop .inv .2 .is)
+    rw (e, tab-take (length s) s 0 (omega arith), take-length s) at (c .before .loop .inv .2 .is)
 
 pub copy-into-spec : {M : Type 1} → statement M
 copy-into-spec =

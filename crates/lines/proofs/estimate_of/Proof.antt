@@ -1,6 +1,7 @@
 -- `lines::estimate_of` meets its contract: the entry is found by counting.
 use denote.Ref.{now}
-use Rattle.lines.proofs.Entries.{exact, all-counted}
+use Rattle.binary32.proofs.Values.{in-float}
+use Rattle.lines.proofs.Entries.{all-counted}
 use native.Mathlib.Omega.{arith}
 use Rattle.lines.specs.Lines.{estimate}
 use borrow.Author.Needs.{needs}
@@ -8,7 +9,7 @@ use Rattle.lines.proofs.estimate_of.Statement.{statement}
 use Rattle.lines.proofs.estimate_of.Tie as tie
 
 int-to-float-trunc : tie.Need-int-to-float-trunc
-int-to-float-trunc c = exact _ (c .before .before .pre .0)
+int-to-float-trunc c = in-float (omega (arith, c .before .before .pre .0))
 
 trunc-requires : tie.Need-trunc-requires
 trunc-requires c κs = search needs

@@ -3,7 +3,7 @@ use native.Mathlib.Omega.{arith}
 use denote.Ref.{now}
 use Rattle.lines.specs.Lines.{isLine}
 use Rattle.lines.proofs.Windows.{largest-at, before-short, behind-short}
-use Rattle.lines.proofs.Entries.{exact}
+use Rattle.binary32.proofs.Values.{in-float}
 use borrow.Author.Needs.{needs}
 use Rattle.lines.proofs.is_line.Statement.{statement}
 use Rattle.lines.proofs.is_line.Tie as tie
@@ -15,7 +15,7 @@ shared-slice-read-v : tie.Need-shared-slice-read-v
 shared-slice-read-v c = search needs
 
 int-to-float-if1 : tie.Need-int-to-float-if1
-int-to-float-if1 c = let at = c .before .before .before in exact _ (omega (arith, at .pre .1, largest-at (now (at .args .t)) (at .args .i)))
+int-to-float-if1 c = let at = c .before .before .before in in-float (omega (arith, at .pre .1, largest-at (now (at .args .t)) (at .args .i)))
 
 seven-before-requires : tie.Need-seven-before-requires
 seven-before-requires c κs = search needs

@@ -1,6 +1,7 @@
 -- `lines::line_threshold` meets its contract: both entries are found by counting, and are exact as binary32.
 use denote.Ref.{now}
-use Rattle.lines.proofs.Entries.{exact, all-counted, entry-le}
+use Rattle.binary32.proofs.Values.{in-float}
+use Rattle.lines.proofs.Entries.{all-counted, entry-le}
 use native.Mathlib.Omega.{arith}
 use Rattle.lines.specs.Lines.{lineThreshold}
 use borrow.Author.Needs.{needs}
@@ -8,7 +9,7 @@ use Rattle.lines.proofs.line_threshold.Statement.{statement}
 use Rattle.lines.proofs.line_threshold.Tie as tie
 
 int-to-float-trunc : tie.Need-int-to-float-trunc
-int-to-float-trunc c = exact _ (c .before .before .pre .most)
+int-to-float-trunc c = in-float (omega (arith, c .before .before .pre .most))
 
 trunc-requires : tie.Need-trunc-requires
 trunc-requires c κs = search needs
@@ -25,12 +26,12 @@ entry-of-requires-2 c κs = let at = c .before .before .before .before in (omega
 int-to-float-result : tie.Need-int-to-float-result
 int-to-float-result c =
     let low = c .before .before .before .before .before .before .pre .entries in
-    exact _ (rw (c .before .before .entry-of .ensures) (entry-le _ _ _ low))
+    in-float (rw (c .before .before .entry-of .ensures) (entry-le _ _ _ (omega (arith, low))))
 
 int-to-float-result-2 : tie.Need-int-to-float-result-2
 int-to-float-result-2 c =
     let low = c .before .before .before .before .before .before .before .pre .entries in
-    exact _ (rw (c .before .before .entry-of2 .ensures) (entry-le _ _ _ low))
+    in-float (rw (c .before .before .entry-of2 .ensures) (entry-le _ _ _ (omega (arith, low))))
 
 returns : tie.Need-returns
 unfolding lineThreshold

@@ -4,7 +4,7 @@ use native.Mathlib.Omega.{arith}
 use denote.Ref.{now}
 use Rattle.lines.specs.Lines.{narrowGap}
 use Rattle.lines.proofs.Windows.{largest-at}
-use Rattle.lines.proofs.Entries.{exact}
+use Rattle.binary32.proofs.Values.{in-float}
 use borrow.Author.Needs.{needs}
 use Rattle.lines.proofs.narrow_after.Statement.{statement}
 use Rattle.lines.proofs.narrow_after.Tie as tie
@@ -30,10 +30,10 @@ gap-requires c κs = search needs
 int-to-float-result : tie.Need-int-to-float-result
 int-to-float-result c =
     let a = c .before .before .before .before .before .args in
-    exact _ (omega (arith, c .before .gap .ensures, largest-at (now (a .lines)) (a .k + 1)))
+    in-float (omega (arith, c .before .gap .ensures, largest-at (now (a .lines)) (a .k + 1)))
 
 int-to-float-result-2 : tie.Need-int-to-float-result-2
-int-to-float-result-2 c = exact _ (c .before .before .before .before .before .before .pre .2)
+int-to-float-result-2 c = in-float (omega (arith, c .before .before .before .before .before .before .pre .2))
 
 returns : tie.Need-returns
 unfolding narrowGap

@@ -1,9 +1,10 @@
 -- `locate::narrow_on` meets its contract. The invariant: the loop from the start is the loop from here. The height falls.
-use Prim.Native.Nat.{_-_}
 use mathlib.Core.Path.{_≡_, refl, sym, _∙_}
 use native.Mathlib.Omega.{arith}
 use lib.ListN.{length}
-use Rattle.locate.proofs.Narrowing.{Going, going-first, going-more, unit-planes, fit-next, large, ordered, shrunk, inside-of, narrows-end, narrows-small}
+use Rattle.narrow.proofs.Laws.{smaller}
+use Rattle.locate.proofs.Looking.{inside-of}
+use Rattle.locate.proofs.Narrowing.{Going, going-first, going-more, unit-planes, fit-next, large, ordered, narrows-end, narrows-small}
 use borrow.Author.Needs.{needs}
 use Rattle.locate.proofs.narrow_on.Statement.{statement}
 use Rattle.locate.proofs.narrow_on.Tie as tie
@@ -52,7 +53,7 @@ look-requires c κs =
     let i = c .before .before .before .before .before .before .before .before .before .before .before .before .before .before .loop .inv in
     let l = large _ _ (sym (c .before .before .before .before .small .ensures) ∙ c .before .before .before .if2 .left) in
     let ask = c .before .before .before .before .before .before .before .before .before .before .before .before .before .before .before .before .before .before .pre .1 in
-    let s = shrunk (c .before .before .before .before .before .before .before .before .before .before .before .before .before .before .loop .h) (c .before .before .before .before .before .before .before .before .before .before .before .before .before .before .loop .w) in
+    let s = smaller 3 (c .before .before .before .before .before .before .before .before .before .before .before .before .before .before .loop .h) (c .before .before .before .before .before .before .before .before .before .before .before .before .before .before .loop .w) in
     (rw (c .before .before .before .before .before .before .before .before .before .narrow .ensures) (fit-next (i .0 .fit) (l .0) (l .1)), omega (arith, s, i .0 .area, i .1, ask .0), omega (arith, s, i .0 .area, i .2, ask .1))
 
 loop-less : tie.Need-loop-less Inv-loop μ-loop

@@ -1,9 +1,9 @@
 -- `locate::score_all` meets its contract: the row scores go into the part behind the column scores.
 use denote.Ref.{now}
 use Rattle.lists.specs.Picture.{points}
+use Rattle.lists.proofs.Part.{put-behind}
 use Rattle.strips.specs.Strip.{columnScores, rowScores}
 use Rattle.strips.proofs.Scores.{length-scores}
-use Rattle.locate.proofs.Scoring.{both}
 use borrow.Author.Needs.{needs}
 use Rattle.locate.proofs.score_all.Statement.{statement}
 use Rattle.locate.proofs.score_all.Tie as tie
@@ -39,7 +39,7 @@ returns : tie.Need-returns
 returns c =
     let a = c .before .before .before .before .before .before .before .before .before .before .before .before .before .before .before .args in
     let E = points (a .stride) 1 (now (a .edges)) in
-    both (columnScores E (a .b)) (rowScores E (a .b)) (now (a .scores)) _ _ _ _ (length-scores E _ _ _ _ (c .before .before .before .before .before .before .before .before .before .before .before .before .before .before .before .pre .0 .0 .columns)) (c .before .before .before .before .before .before .before .before .before .before .column-scores .ensures) (c .before .before .before .before .row-scores .ensures)
+    put-behind _ _ (columnScores E (a .b)) (rowScores E (a .b)) (now (a .scores)) (length-scores E _ _ _ _ (c .before .before .before .before .before .before .before .before .before .before .before .before .before .before .before .pre .0 .0 .columns)) (c .before .before .before .before .before .before .before .before .before .before .column-scores .ensures) (c .before .before .before .before .row-scores .ensures)
 
 pub score-all-spec : {M : Type 1} → statement M
 score-all-spec =

@@ -10,7 +10,7 @@ use Rattle.lists.proofs.Fill.{Filled, filled-none}
 use Rattle.lists.proofs.Part.{mid-rest}
 use Rattle.board.specs.Screen.{view}
 use Rattle.narrow.specs.Narrow.{narrowed}
-use Rattle.narrow.proofs.Packed.{cell, filled-row, row-fits}
+use Rattle.narrow.proofs.Packed.{cell, filled-row, row-in}
 use borrow.Author.Needs.{needs}
 use Rattle.narrow.proofs.narrow_planes.Statement.{statement}
 use Rattle.narrow.proofs.narrow_planes.Tie as tie
@@ -32,7 +32,7 @@ loop-holds c = (omega arith, refl, rw zero-mul filled-none)
 place : (c : tie.In-loop Inv-loop μ-loop) →
     c .before .loop .r * (c .before .before .before .before .args .width / 3) + c .before .before .before .before .args .width / 3
     ≤ c .before .before .before .before .args .height * c .before .before .before .before .args .width
-place c = row-fits (c .before .before .before .before .args .height) (c .before .before .before .before .args .width) (c .loop-test .taken)
+place c = row-in (c .before .before .before .before .args .height) (c .before .before .before .before .args .width) (c .loop-test .taken)
 
 mul-from : tie.Need-mul-from Inv-loop μ-loop
 mul-from c = omega (arith, place c)

@@ -3,7 +3,7 @@ use Prim.Native.Nat.{_-_}
 use native.Mathlib.Omega.{arith}
 use denote.Ref.{now}
 use lib.ListN.{length}
-use Rattle.reading.proofs.Answers.{exact}
+use Rattle.binary32.proofs.Values.{in-float}
 use borrow.Author.Needs.{needs}
 use Rattle.reading.proofs.count_of.Statement.{statement}
 use Rattle.reading.proofs.count_of.Tie as tie
@@ -29,7 +29,7 @@ add-span c = let at = c .before .before .before in omega (arith, at .pre .0 .2 (
 int-to-float-trunc : tie.Need-int-to-float-trunc
 int-to-float-trunc c =
     let at = c .before .before .before .before in
-    exact _ (omega (arith, at .pre .0 .2 (length (now (at .args .lines)) - 1)))
+    in-float (omega (arith, at .pre .0 .2 (length (now (at .args .lines)) - 1)))
 
 pitch-of-requires : tie.Need-pitch-of-requires
 pitch-of-requires c κs = search needs

@@ -2,15 +2,15 @@
 use mathlib.Core.Path.{_∙_}
 use native.Mathlib.Omega.{arith}
 use denote.Ref.{now}
-use Rattle.lines.specs.Lines.{Scores}
+use Rattle.lines.specs.Lines.{InLimits}
 use Rattle.reading.proofs.Answers.{too-short, too-long, no-room, too-high, fit}
 use Rattle.reading.proofs.Laws.{quarters-pitched}
 use borrow.Author.Needs.{needs}
 use Rattle.reading.proofs.get_line.Statement.{statement}
 use Rattle.reading.proofs.get_line.Tie as tie
 
-scores : (c : tie.Else4) → Scores (now (c .before .before .before .before .before .before .before .args .list))
-scores c = record { least = omega arith; most = omega arith; entries = omega (arith, c .before .largest-of .ensures) }
+in-limits : (c : tie.Else4) → InLimits (now (c .before .before .before .before .before .before .before .args .list))
+in-limits c = record { least = omega arith; most = omega arith; entries = omega (arith, c .before .largest-of .ensures) }
 
 returns : tie.Need-returns
 returns c = too-short _ _ (omega arith)
@@ -31,10 +31,10 @@ returns-4 : tie.Need-returns-4
 returns-4 c = too-high _ _ (omega arith) (omega arith) (omega arith) (omega (arith, c .before .largest-of .ensures))
 
 quarters-of-requires : tie.Need-quarters-of-requires
-quarters-of-requires c κs = (scores (c .before), omega arith)
+quarters-of-requires c κs = (in-limits (c .before), omega arith)
 
 pitched-of-requires : tie.Need-pitched-of-requires
-pitched-of-requires c κs = rw (c .before .before .quarters-of .ensures) (quarters-pitched _ (scores (c .before .before .before .before)))
+pitched-of-requires c κs = rw (c .before .before .quarters-of .ensures) (quarters-pitched _ (in-limits (c .before .before .before .before)))
 
 same-length : tie.Need-same-length
 same-length c = search needs
@@ -42,7 +42,7 @@ same-length c = search needs
 returns-5 : tie.Need-returns-5
 returns-5 c =
     (rw (c .before .before .before .quarters-of .ensures) at (c .pitched-of .ensures))
-    ∙ fit _ _ (scores (c .before .before .before .before .before)) (omega arith)
+    ∙ fit _ _ (in-limits (c .before .before .before .before .before)) (omega arith)
 
 pub get-line-spec : {M : Type 1} → statement M
 get-line-spec =

@@ -1,12 +1,12 @@
 -- `reading::pitch_of` meets its contract: a quarter is exact.
 use native.Mathlib.Omega.{arith}
-use Rattle.reading.proofs.Answers.{exact}
+use Rattle.binary32.proofs.Values.{in-float}
 use borrow.Author.Needs.{needs}
 use Rattle.reading.proofs.pitch_of.Statement.{statement}
 use Rattle.reading.proofs.pitch_of.Tie as tie
 
 int-to-float-result : tie.Need-int-to-float-result
-int-to-float-result c = exact _ (omega arith)
+int-to-float-result c = in-float (omega arith)
 
 returns : tie.Need-returns
 returns c = search needs

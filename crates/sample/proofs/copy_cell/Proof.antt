@@ -7,7 +7,8 @@ use lib.ListN.{length}
 use Rattle.sample.specs.Copy.{Extends}
 use Rattle.sample.proofs.Answers.{Fit, fit}
 use Rattle.sample.proofs.Cells.{cellValue, Placed, place-in, value-is}
-use Rattle.sample.proofs.Copies.{row-in, extends-none, extends-row, extends-whole}
+use Rattle.lists.proofs.Grid.{row-fits}
+use Rattle.sample.proofs.Copies.{extends-none, extends-row, extends-whole}
 use borrow.Author.Needs.{needs}
 use Rattle.sample.proofs.copy_cell.Statement.{statement}
 use Rattle.sample.proofs.copy_cell.Tie as tie
@@ -32,7 +33,7 @@ room : (c : tie.In-loop Inv-loop μ-loop) → let s = c .before .before .before 
     c .before .loop .k * (s .size * s .size) + s .size * s .size ≤ length (s .out .now)
 room c =
     let n = c .before .before .before .before .before .before .args .size in
-    omega (arith, row-in (n * n) (c .loop-test .taken), placed (c .before .before) .fit .output)
+    omega (arith, row-fits _ _ (n * n) (c .loop-test .taken), placed (c .before .before) .fit .output)
 
 places-requires : tie.Need-places-requires Inv-loop μ-loop
 places-requires c κs = fits c .numbers .down
@@ -49,7 +50,7 @@ mul-copy-plane c = omega arith
 mul-copy-plane-2 : tie.Need-mul-copy-plane-2 Inv-loop μ-loop
 mul-copy-plane-2 c =
     let s = c .before .before .before .before .before .before .before .args .b in
-    omega (arith, row-in (s .height * s .width) (c .before .loop-test .taken))
+    omega (arith, row-fits _ _ (s .height * s .width) (c .before .loop-test .taken))
 
 mul-copy-plane-3 : tie.Need-mul-copy-plane-3 Inv-loop μ-loop
 mul-copy-plane-3 c = omega (arith, room (c .before .before .before .before))

@@ -6,7 +6,8 @@ use native.Mathlib.Omega.{arith}
 use lib.Arith.{digits-div, digits-mod}
 use lib.ListN.{length, getD}
 use Rattle.sample.specs.Copy.{planeValue, Extends}
-use Rattle.sample.proofs.Copies.{row-in, extends-none, extends-row}
+use Rattle.lists.proofs.Grid.{row-fits}
+use Rattle.sample.proofs.Copies.{extends-none, extends-row}
 use borrow.Author.Needs.{needs}
 use Rattle.sample.proofs.copy_plane.Statement.{statement}
 use Rattle.sample.proofs.copy_plane.Tie as tie
@@ -27,7 +28,7 @@ read c =
 
 room : (c : tie.In-loop Inv-loop μ-loop) → let s = c .before .before .before .before .args in
     c .before .loop .i * s .size + s .size ≤ s .size * s .size
-room c = row-in _ (c .loop-test .taken)
+room c = row-fits _ _ _ (c .loop-test .taken)
 
 loop-holds : tie.Need-loop-holds Inv-loop μ-loop
 loop-holds c = (omega arith, rw zero-mul (extends-none _ _))

@@ -6,9 +6,10 @@ use native.Mathlib.Omega.{arith}
 use borrow.Rule.Slice.PartMut.{midOf, mid-len}
 use lib.ListN.{length}
 use Rattle.lists.specs.Picture.{points}
-use Rattle.lists.proofs.Fill.{Filled, filled-none}
+use Rattle.lists.proofs.Fill.{Filled, filled-none, filled-all}
+use Rattle.lists.proofs.Part.{filled-whole}
 use Rattle.strips.specs.Strip.{at, score}
-use Rattle.strips.proofs.Bands.{filled-all, filled-part, band-in, scratch-in}
+use Rattle.strips.proofs.Bands.{band-in, scratch-in}
 use borrow.Author.Needs.{needs}
 use Rattle.strips.proofs.banded_scores.Statement.{statement}
 use Rattle.strips.proofs.banded_scores.Tie as tie
@@ -73,10 +74,12 @@ loop-less c = search needs
 
 loop-again : tie.Need-loop-again Inv-loop μ-loop
 loop-again c =
-    let l = c .before .before .before .before .before .before .before .before .before .loop in (
+    let lent = c .before .before .before .before .before in
+    let l = lent .before .before .before .before .loop in
+    let m = lent .before .before .shorter .result in (
       omega arith,
       search needs,
-      filled-part (l .inv .2) (omega arith) (omega arith) (c .before .before .before .before .band-scores .ensures) (λ j. rw add-assoc),
+      filled-whole (l .i + m - l .i) (l .inv .2) (part lent) (c .before .before .before .before .band-scores .ensures) (λ j. rw add-assoc),
     )
 
 same-length : tie.Need-same-length Inv-loop μ-loop

@@ -3,7 +3,8 @@ use Prim.Native.Nat.{_+_, _-_, _*_, _≤_}
 use mathlib.Core.Path.{_≡_}
 use native.Mathlib.Omega.{arith}
 use Rattle.strips.specs.States.{Copied}
-use Rattle.strips.proofs.Turning.{row-fits, copied-none, copied-more}
+use Rattle.lists.proofs.Grid.{row-fits}
+use Rattle.strips.proofs.Turning.{copied-none, copied-more}
 use borrow.Author.Needs.{needs}
 use Rattle.strips.proofs.copy_down.Statement.{statement}
 use Rattle.strips.proofs.copy_down.Tie as tie

@@ -5,9 +5,9 @@ use native.Mathlib.Omega.{arith}
 use denote.Ref.{now}
 use borrow.Rule.Slice.PartMut.{midOf, mid-len}
 use lib.ListN.{length}
+use Rattle.lists.proofs.Picture.{flip-points}
 use Rattle.strips.proofs.Bands.{strips-in}
 use Rattle.strips.proofs.Scores.{joined}
-use Rattle.strips.proofs.Turning.{flip-points}
 use borrow.Author.Needs.{needs}
 use Rattle.strips.proofs.row_scores.Statement.{statement}
 use Rattle.strips.proofs.row_scores.Tie as tie
@@ -55,7 +55,7 @@ same-length-2 c = search needs
 returns : tie.Need-returns
 returns c =
     let a = c .before .before .before .before .before .before .before .before .before .before .before .before .before .before .before .args in
-    rw (flip-points (a .stride) (now (a .edges)))
+    rw (flip-points (a .stride) 1 (now (a .edges)))
     (joined _ _ _ _ _ _ _ _ (omega arith) (omega arith)
     (c .before .before .before .before .before .before .before .before .banded-scores .ensures)
     (c .before .before .border-scores .ensures))

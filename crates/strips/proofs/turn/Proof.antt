@@ -3,7 +3,8 @@ use Prim.Native.Nat.{_+_, _-_, _*_, _≤_}
 use mathlib.Core.Path.{_≡_}
 use native.Mathlib.Omega.{arith}
 use Rattle.strips.specs.States.{Turned}
-use Rattle.strips.proofs.Turning.{rows-fit, turned-start, turned-more}
+use Rattle.lists.proofs.Grid.{rows-fit}
+use Rattle.strips.proofs.Turning.{turned-start, turned-more}
 use borrow.Author.Needs.{needs}
 use Rattle.strips.proofs.turn.Statement.{statement}
 use Rattle.strips.proofs.turn.Tie as tie

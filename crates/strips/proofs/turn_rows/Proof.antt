@@ -3,7 +3,8 @@ use Prim.Native.Nat.{_+_, _-_, _*_, _≤_}
 use mathlib.Core.Path.{_≡_}
 use native.Mathlib.Omega.{arith}
 use Rattle.strips.specs.States.{Turned}
-use Rattle.strips.proofs.Turning.{row-fits, turned-none, turned-row}
+use Rattle.lists.proofs.Grid.{row-fits}
+use Rattle.strips.proofs.Turning.{turned-none, turned-row}
 use borrow.Author.Needs.{needs}
 use Rattle.strips.proofs.turn_rows.Statement.{statement}
 use Rattle.strips.proofs.turn_rows.Tie as tie
