@@ -31,7 +31,8 @@ impl Board {
     // The side of a cell's sample.
     pub const MOST_SIZE: usize = 64;
 
-    // A record of these sides with zeros in the other eight fields.
+    // A record of these sides with zeros in the other eight fields. That the limits above are the definitions' is stated here: a constant has no
+    // contract of its own.
     pub fn fresh(height: usize, width: usize) -> Self
         ensures { λ r. ⌜ r ≡ Spec.fresh height width ⌝ }
         ensures limits { λ _. do ⌜ LimitsAre (← ⟦Board::LEAST_SIDE⟧ .entry) (← ⟦Board::LEAST_PLANE_SIDE⟧ .entry) (← ⟦Board::MOST_SIDE⟧ .entry) (← ⟦Board::MOST_SIZE⟧ .entry) ⌝ }

@@ -9,7 +9,8 @@ use Rattle.rank.specs.Rank.{entry}
 use Rattle.edges.specs.Edges.{clip}
 use Rattle.edges.specs.declared.Range.{Range}
 
--- a part of the sample: one row in s, and of it one p-th of its columns, another one from row to row. With 1 and 1 it is the sample.
+-- A part of the sample: one row of each s, and of it one p-th of the columns; which row and which p-th changes from one to the next by 3 and
+-- by 5, so that all come in turn where these share no factor with s and p. With 1 and 1 it is the sample.
 abbrev pub part : ℕ → ℕ → ℕ → ℕ → List Float → List Float
 part s p row column g =
     let n = (3 * column / 4 - column / 4) / p in

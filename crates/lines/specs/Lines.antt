@@ -102,6 +102,8 @@ dropLast e (x ∷ []) = x ∷ []
 dropLast e (x ∷ y ∷ []) = cond (narrowGap e (y - x)) (x ∷ []) (x ∷ y ∷ [])
 dropLast e (x ∷ y ∷ z ∷ l) = x ∷ dropLast e (y ∷ z ∷ l)
 
+-- ---- for the contracts inside
+
 -- what the code hands back: `count` entries, the list at the front of what was lent
 pub record Listed (list : List ℕ) (count : ℕ) (lent out : List ℕ) : Type 0 where
   pub counted : count ≡ length list

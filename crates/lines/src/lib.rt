@@ -1,5 +1,5 @@
 // The lines of a list of scores, and the estimate e of their gap (01, "Lines and votes", first paragraph). Definitions: specs/Lines.
-// Laws for callers: proofs/Laws (the lines rise, two remain after the drops, e is one of the gaps).
+// Laws for callers: proofs/Laws (the lines rise, two remain after the drops, e is above 5 and at most their extent).
 ghost use mathlib.Core.Path.{_≡_};
 ghost use mathlib.Core.Bool.{_||_};
 ghost use mathlib.Core.List.{[], _∷_, _++_};

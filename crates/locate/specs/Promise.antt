@@ -1,4 +1,5 @@
--- 01, "What the contracts carry": nobody who draws on the same edge picture can beat the reader. One statement on locating.
+-- 01, "What the contracts carry": on the same edge picture no walk scores more, and no offset and pitch get more votes, than what locating
+-- hands back. One statement on locating.
 use Prim.Native.Nat.{ℕ, _+_, _-_, _<_}
 use mathlib.Core.Path.{_≡_}
 use mathlib.Core.Bool.{Bool}

@@ -1,5 +1,5 @@
 // Locating the board (01, "Locating"). It refuses with 1, 3, 4 and 5 to 9. Definitions: specs/Search (the loop of narrowings),
-// specs/Locate (what a call hands back and leaves), specs/Promise (nobody who draws on the same edge picture can beat the reader).
+// specs/Locate (what a call hands back and leaves), specs/Promise (on the same edge picture no walk and no vote beats what it hands back).
 ghost use mathlib.Core.Path.{_≡_};
 ghost use mathlib.Core.Bool.{true, false};
 ghost use mathlib.Core.List.{_++_};

@@ -39,10 +39,12 @@ pub record UnitPlanes (h w : ℕ) (planes : List Float) : Type 0 where
   pub there : 3 * (h * w) ≤ length planes
   pub units : allUnits (take (3 * (h * w)) planes) ≡ true
 
--- ---- a step of the code: three neighbours of a list, the first at `at`, and the same sorted rising
+-- ---- for the contracts inside
 
+-- three neighbours of a list, the first at `at`
 abbrev pub neighbours : List Float → ℕ → List Float
 neighbours s at = getD s at nan ∷ getD s (at + 1) nan ∷ getD s (at + 2) nan ∷ []
 
+-- the same sorted rising
 abbrev pub risingAt : List Float → ℕ → Rising
 risingAt s at = record { least = ranked (neighbours s at) 0; middle = ranked (neighbours s at) 1; most = ranked (neighbours s at) 2 }

@@ -52,6 +52,8 @@ readingOf s scratch =
     (cond (ltb scratch (4 * length s)) (Of.Refused 3)
     (cond (ltb 4096 (largest s)) (Of.Refused 11) (pitched (quartersOf s))))
 
+-- ---- for the contracts inside
+
 -- what `read_lines` asks of the lines that remain and of the row
 pub record Readable (e : ℕ) (lines : List ℕ) (room : ℕ) : Type 0 where
   pub low : 6 ≤ e

@@ -1,6 +1,6 @@
-// Replays screens that the Rust located: standard input holds them, one after another: height and width, two bytes each, low byte
-// first, then the pixels. A line each has the answer and the record; what is printed is held to the file stdout, which the Rust made
-// (scripts/answers locate).
+// Replays screens that the Rust was run on: standard input holds them, one after another: height and width, two bytes each, low byte
+// first, then the pixels. A line each has the answer and the record; what is printed is held to the file stdout, which has the
+// Rust's fields (scripts/answers locate), and 01's number where the Rust does not read.
 ghost use Prim.Native.Nat.{_<_};
 use libc::STDIN_FILENO;
 use libc::STDOUT_FILENO;

@@ -180,7 +180,7 @@ fn copy_cell(b: Board, planes: &[f32], x: usize, y: usize, size: usize, out: &mu
     }
 }
 
-// A cell of planes that are known to be fit: a call over many cells checks them once.
+// A cell, without the check of plane values: a call over many cells could make it once.
 pub fn cell_of(b: Board, planes: &[f32], x: usize, y: usize, size: usize, out: &mut [f32]) -> u32
     requires { ⌜ 3 * (b .height * b .width) ≤ length (now planes) ⌝ }
     ensures { λ r. ⌜ SampleGives b (now (planes .entry)) x y size (now (out .entry)) (cellAnswer b x y size (length (now (out .entry)))) r (now (out .exit)) ⌝ }

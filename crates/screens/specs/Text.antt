@@ -68,6 +68,8 @@ pub record Written (text given : List ℕ) (count : ℕ) (out : List ℕ) : Type
   pub len : length out ≡ length given
   pub is : out ≡ text ++ drop count given
 
+-- ---- for the contracts inside
+
 -- the bytes are written at `at`: they go on any text that was written so far
 pub record Adds (bytes : List ℕ) (at : ℕ) (before : List ℕ) (next : ℕ) (after : List ℕ) : Type 0 where
   pub next-is : next ≡ at + length bytes

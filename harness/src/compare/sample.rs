@@ -59,6 +59,9 @@ pub fn compare(run: &Run) -> Outcome {
     }
     near_whole(rng, &mut cases, run)?;
     let Cases { count, done, outside, pitch, size, zero } = cases;
+    if pitch == 0 || size == 0 || zero == 0 {
+        return Err("the Rust never returned where the port alone refuses".into());
+    }
     Ok(Tally {
         cases: count,
         note: format!(
@@ -246,6 +249,7 @@ impl Cases {
             (10, Some(_)) => self.pitch += 1,
             (11, Some(_)) if size > 64 => self.size += 1,
             (11, Some(_)) if size == 0 => self.zero += 1,
+            (11, None) if size == 0 => return Some("size 0 panics in the Rust".into()),
             (11, Some(_)) => return Some("a number above 4,096 is sampled by the Rust".into()),
             _ => (),
         }
