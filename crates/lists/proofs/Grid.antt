@@ -1,13 +1,13 @@
--- A grid row by row: where its rows end, one row more, and a loop over rows and columns that fills a list by a rule for each row and column. Assumes nothing.
+-- A grid row by row: where its rows end, one row more, and a list that is filled row by row by a rule for each row and column. Assumes nothing.
 use Prim.Native.Nat.{ℕ, _+_, _*_, _/_, _%_, _≤_, _<_}
-use mathlib.Core.Path.{_≡_, refl, ap, _∙_}
+use mathlib.Core.Path.{_≡_, ap, _∙_}
 use mathlib.Core.List.{List, [], _∷_, _++_}
 use native.Mathlib.Nat.{add-zero, add-mul, suc-mul, one-mul, mul-le-mul-right}
 use native.Mathlib.Omega.{arith}
 use lib.Arith.{digits-div, digits-mod}
-use lib.ListN.{length, set, length-set}
 use Rattle.lists.specs.Tab.{tab, grid}
-use Rattle.lists.proofs.Fill.{Filled, filled-more, tab-same, tab-add}
+use Rattle.lists.proofs.Fill.{Filled, tab-same, tab-add}
+use Rattle.lists.proofs.Extend.{Extends}
 
 -- rows i to i + w of n rows end within them
 pub rows-fit : (i w n s : ℕ) → i + w ≤ n → i * s + w * s ≤ n * s
@@ -33,26 +33,9 @@ module _ {A : Type 0} where
 abbrev pub cell : {A : Type 0} → (ℕ → ℕ → A) → ℕ → ℕ → A
 cell f columns k = f (k / columns) (k % columns)
 
--- row i is filled up to column j: `began` is the list as it was when the row began
-pub record RowFilled {A : Type 0} (f : ℕ → ℕ → A) (columns i j : ℕ) (began out : List A) : Type 0 where
-  pub len : length out ≡ length began
-  pub so-far : (given : List A) → Filled (cell f columns) (i * columns) given began → Filled (cell f columns) (i * columns + j) given out
-
-module _ {A : Type 0} {f : ℕ → ℕ → A} {columns i : ℕ} where
-  pub row-none : {out : List A} → RowFilled f columns i 0 out out
-  row-none = record { len = refl; so-far = λ d h. rw (add-zero) h }
-
-  pub row-more : {j : ℕ} {began out : List A} {v : A} → RowFilled f columns i j began out → j < columns → i * columns + j < length began → v ≡ f i j
-      → RowFilled f columns i (j + 1) began (set out (i * columns + j) v)
-  row-more {j} {began} {out} {v} h l b e =
-      let q : i * columns + (j + 1) ≡ i * columns + j + 1 = omega arith in
-      record {
-        len = length-set out (i * columns + j) v ∙ h .len;
-        so-far = λ d g. rw q (filled-more (h .so-far d g) (omega (arith, g .len)) (rw (digits-div i l, digits-mod i l) e));
-      }
-
-  pub row-whole : {j : ℕ} {given began out : List A} → RowFilled f columns i j began out → j ≡ columns → Filled (cell f columns) (i * columns) given began
-      → Filled (cell f columns) ((i + 1) * columns) given out
-  row-whole {j} h e g =
-      let q : (i + 1) * columns ≡ i * columns + j = add-mul i 1 columns ∙ omega (arith, one-mul columns) in
-      rw q (h .so-far _ g)
+-- one row more
+pub row-whole : {A : Type 0} (f : ℕ → ℕ → A) (columns i : ℕ) {j : ℕ} {given began out : List A} → Extends j (i * columns) (f i) began out → j ≡ columns
+    → Filled (cell f columns) (i * columns) given began → Filled (cell f columns) ((i + 1) * columns) given out
+row-whole f columns i {j} {given} x e h =
+    let q : (i + 1) * columns ≡ i * columns + j = add-mul i 1 columns ∙ omega (arith, one-mul columns) in
+    rw q (x .fills (cell f columns) (λ k l. let b : k < columns = omega arith in rw (digits-div i b, digits-mod i b)) given h)

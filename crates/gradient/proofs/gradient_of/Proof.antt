@@ -6,7 +6,8 @@ use native.Mathlib.Nat.{zero-mul}
 use native.Mathlib.Omega.{arith}
 use denote.Ref.{now}
 use Rattle.lists.proofs.Fill.{Filled, filled-none}
-use Rattle.lists.proofs.Grid.{cell, RowFilled, row-none, row-more, row-whole}
+use Rattle.lists.proofs.Extend.{Extends, extends-none, extends-more}
+use Rattle.lists.proofs.Grid.{cell, row-whole}
 use Rattle.board.specs.Board.{leastPlaneSide}
 use Rattle.board.specs.Screen.{view}
 use Rattle.board.proofs.Sides.{inside}
@@ -17,7 +18,7 @@ use Rattle.gradient.proofs.gradient_of.Statement.{statement}
 use Rattle.gradient.proofs.gradient_of.Tie as tie
 
 abbrev Inv-loop2 : tie.InvT-loop2
-Inv-loop2 height width planes out₀ row column i j₀ out j = (j ≤ column) × RowFilled (gradientAt (view height width planes .px)) column i j out₀ out
+Inv-loop2 height width planes out₀ row column i j₀ out j = (j ≤ column) × Extends j (i * column) (gradientAt (view height width planes .px) i) out₀ out
 
 abbrev μ-loop2 : tie.MeasureT-loop2
 μ-loop2 height width planes out₀ row column i j₀ out j = column - j
@@ -44,7 +45,7 @@ loop-holds : tie.Need-loop-holds Inv-loop2 μ-loop2 Inv-loop μ-loop
 loop-holds c = (omega arith, rw zero-mul filled-none)
 
 loop2-holds : tie.Need-loop2-holds Inv-loop2 μ-loop2 Inv-loop μ-loop
-loop2-holds c = (omega arith, row-none)
+loop2-holds c = (omega arith, extends-none _ _)
 
 mul-steepest : tie.Need-mul-steepest Inv-loop2 μ-loop2 Inv-loop μ-loop
 mul-steepest c = omega (arith, here c .area)
@@ -83,7 +84,7 @@ loop2-again c =
     let at = c .before .before .before .before .loop in
     let row = c .before .before .loop2 in (
       omega arith,
-      row-more (row .inv .1) (c .before .loop2-test .taken) (omega (arith, here (c .before) .point-in))
+      extends-more _ _ (row .inv .1) (omega (arith, here (c .before) .point-in))
           (c .steepest .ensures ∙ sym (gradient-at (s .args .height) (s .args .width) (now (s .args .planes)) (at .i) (row .j))),
     )
 
@@ -94,7 +95,9 @@ loop-less : tie.Need-loop-less Inv-loop2 μ-loop2 Inv-loop μ-loop
 loop-less c = search needs
 
 loop-again : tie.Need-loop-again Inv-loop2 μ-loop2 Inv-loop μ-loop
-loop-again c = (omega arith, row-whole (c .before .loop2 .inv .1) (omega arith) (c .before .before .before .loop .inv .1))
+loop-again c =
+    let a = c .before .before .before .before .before .before .args in
+    (omega arith, row-whole (gradientAt (view (a .height) (a .width) (now (a .planes)) .px)) _ _ (c .before .loop2 .inv .1) (omega arith) (c .before .before .before .loop .inv .1))
 
 same-length : tie.Need-same-length Inv-loop2 μ-loop2 Inv-loop μ-loop
 same-length c = search needs

@@ -5,9 +5,9 @@ use native.Mathlib.Nat.{zero-mul}
 use native.Mathlib.Omega.{arith}
 use lib.Arith.{digits-div, digits-mod}
 use lib.ListN.{length, getD}
-use Rattle.sample.specs.Copy.{planeValue, Extends}
+use Rattle.sample.specs.Copy.{planeValue}
 use Rattle.lists.proofs.Grid.{row-fits}
-use Rattle.sample.proofs.Copies.{extends-none, extends-row}
+use Rattle.lists.proofs.Extend.{Extends, extends-none, extends-row}
 use borrow.Author.Needs.{needs}
 use Rattle.sample.proofs.copy_plane.Statement.{statement}
 use Rattle.sample.proofs.copy_plane.Tie as tie

@@ -3,8 +3,8 @@ use Prim.Native.Nat.{_+_, _-_, _≤_, _<_}
 use mathlib.Core.Path.{_≡_, refl}
 use native.Mathlib.Omega.{arith}
 use lib.ListN.{length, getD}
-use Rattle.sample.specs.Copy.{rowValue, Extends}
-use Rattle.sample.proofs.Copies.{extends-none, extends-more}
+use Rattle.sample.specs.Copy.{rowValue}
+use Rattle.lists.proofs.Extend.{Extends, extends-none, extends-more}
 use borrow.Author.Needs.{needs}
 use Rattle.sample.proofs.copy_row.Statement.{statement}
 use Rattle.sample.proofs.copy_row.Tie as tie

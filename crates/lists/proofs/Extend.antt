@@ -1,13 +1,18 @@
--- A list that is filled from the front, one value or one row at a time. Assumes nothing.
+-- A list that was filled up to a place, filled on from there: one value or one row at a time. Assumes nothing.
 use Prim.Native.Nat.{ℕ, _+_, _*_, _<_}
 use mathlib.Core.Path.{_≡_, refl, ap, _∙_}
 use mathlib.Core.List.{List, _++_}
 use native.Mathlib.Nat.{add-mul, one-mul, add-zero}
 use native.Mathlib.Omega.{arith}
 use lib.ListN.{length, set, drop, length-set}
 use Rattle.lists.specs.Tab.{tab}
-use Rattle.lists.proofs.Fill.{filled-none, filled-more}
-use Rattle.sample.specs.Copy.{Extends}
+use Rattle.lists.proofs.Fill.{Filled, filled-none, filled-more}
+
+-- where `given` was filled by f up to `from`, and f has these n values there, it is now filled up to from + n
+pub record Extends {A : Type 0} (n from : ℕ) (value : ℕ → A) (before after : List A) : Type 0 where
+  pub len : length after ≡ length before
+  pub fills : (f : ℕ → A) → ((j : ℕ) → j < n → value j ≡ f (from + j)) → (given : List A)
+      → Filled f from given before → Filled f (from + n) given after
 
 module _ {A : Type 0} (from : ℕ) (value : ℕ → A) where
   pub extends-none : {out : List A} → Extends 0 from value out out
