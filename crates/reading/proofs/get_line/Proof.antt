@@ -58,12 +58,11 @@ same-length : tie.Need-same-length
 same-length c = search needs
 
 returns-5 : tie.Need-returns-5
-returns-5 c =
-    (
-      (rw (c .before .before .before .quarters-of .ensures) at (c .pitched-of .ensures))
+returns-5 c = (
+  (rw (c .before .before .before .quarters-of .ensures) at (c .pitched-of .ensures))
       ∙ fit _ _ (in-limits (c .before .before .before .before .before)) (omega arith),
-      drop-at (c .before .before .before .quarters-of .last .1 .0) _ _ (c .before .before .before .quarters-of .kept .1 .0 ∙ part (c .before .before .before .before .before)),
-    )
+  drop-at (c .before .before .before .quarters-of .last .1 .0) _ _ (c .before .before .before .quarters-of .kept .1 .0 ∙ part (c .before .before .before .before .before)),
+)
 
 pub get-line-spec : {M : Type 1} → statement M
 get-line-spec =
