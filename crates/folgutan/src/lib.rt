@@ -1,11 +1,12 @@
 // The C interface: include/folgutan.h documents it. Each function carries the contract of the one that it wraps; a reading
 // crosses as a struct (specs/Line). It asks nothing of its caller beyond valid slices that do not overlap.
 ghost use mathlib.Core.Path.{_≡_};
-ghost use lib.ListN.{length};
+ghost use Prim.Native.Nat.{_*_};
+ghost use lib.ListN.{length, drop};
 ghost use Rattle.load.specs.Load.{ofByte, LoadGives};
 ghost use Rattle.gradient.specs.Gradient.{GradientGives};
 ghost use Rattle.reading.specs.Reading.{readingOf};
-ghost use Rattle.locate.specs.Locate.{fitAnswer, LocateGives};
+ghost use Rattle.locate.specs.Locate.{fitAnswer, LocateGives, ScratchKept};
 ghost use Rattle.locate.specs.Promise.{Promise};
 ghost use Rattle.sample.specs.Sample.{sampleAnswer, SampleGives};
 ghost use Rattle.folgutan.specs.Line.{lineOf};
@@ -60,13 +61,15 @@ pub extern "C" fn folgutan_locate(
 ) -> Located
     ensures gives { λ r. ⌜ LocateGives (fitAnswer (b .height) (b .width) (now (planes .entry)) (length (now (edges .entry))) (length (now (scores .entry))) (length (now (floats .entry))) (length (now (bytes .entry))) (length (now (words .entry)))) b (now (planes .entry)) (now (edges .entry)) (now (scores .entry)) r (now (planes .exit)) (now (edges .exit)) (now (scores .exit)) ⌝ }
     ensures promise { λ r. ⌜ Promise (fitAnswer (b .height) (b .width) (now (planes .entry)) (length (now (edges .entry))) (length (now (scores .entry))) (length (now (floats .entry))) (length (now (bytes .entry))) (length (now (words .entry)))) b (now (planes .entry)) r (now (scores .exit)) ⌝ }
+    ensures kept { λ _. ⌜ ScratchKept (b .height) (b .width) (now (floats .entry)) (now (bytes .entry)) (now (words .entry)) (now (floats .exit)) (now (bytes .exit)) (now (words .exit)) ⌝ }
 {
     locate::get_pos_pixel(b, planes, edges, scores, floats, bytes, words)
 }
 
 #[no_mangle]
 pub extern "C" fn folgutan_read_line(list: &[u32], scratch: &mut [u32]) -> Line
-    ensures { λ r. ⌜ r ≡ lineOf (readingOf (now (list .entry)) (length (now (scratch .entry)))) ⌝ }
+    ensures reads { λ r. ⌜ r ≡ lineOf (readingOf (now (list .entry)) (length (now (scratch .entry)))) ⌝ }
+    ensures kept { λ _. ⌜ drop (4 * length (now (list .entry))) (now (scratch .exit)) ≡ drop (4 * length (now (list .entry))) (now (scratch .entry)) ⌝ }
 {
     let reading = reading::get_line(list, scratch);
     match reading {

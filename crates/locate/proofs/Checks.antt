@@ -3,7 +3,7 @@ use Prim.Native.Nat.{ℕ, _+_, _*_, _≤_}
 use mathlib.Core.Path.{_≡_}
 use mathlib.Core.Bool.{true, false, not}
 use mathlib.Core.List.{List}
-use borrow.Author.Tests.{ltb-false, not-false}
+use borrow.Author.Tests.{le-ltb, ltb-false, not-false}
 use lib.Dec.{ltb}
 use lib.Ieee.{Float}
 use lib.ListN.{length, take}
@@ -51,3 +51,20 @@ fit h w planes edges scores floats bytes words e =
     let b = passed (slicesShort h w (length planes) edges scores floats bytes words) 2 _ (a .1) in
     let c = passed (not (allUnits (take (3 * (h * w)) planes))) 3 _ (b .1) in
     record { sides = inside leastSide h w (a .0); slices = room h w (length planes) edges scores floats bytes words (b .0); units = not-false _ (c .0) }
+
+-- the checks pass with other scratch too, if it is long enough
+pub fit-with : (h w : ℕ) (planes : List Float) (edges scores floats bytes words : ℕ) {floats' bytes' words' : ℕ} → fitAnswer h w planes edges scores floats bytes words ≡ 0
+    → h * w ≤ floats' → h * w ≤ bytes' → 4 * (h + w) ≤ words' → fitAnswer h w planes edges scores floats' bytes' words' ≡ 0
+unfolding fitAnswer slicesShort
+fit-with h w planes edges scores floats bytes words {floats'} {bytes'} {words'} e f b q =
+    let r = fit h w planes edges scores floats bytes words e in
+    rw (
+      passed (sidesOutside leastSide h w) 0 _ e .0,
+      le-ltb (length planes) (3 * (h * w)) (r .slices .planes-in),
+      le-ltb edges (h * w) (r .slices .edges-in),
+      le-ltb scores (h + w) (r .slices .scores-in),
+      le-ltb floats' (h * w) f,
+      le-ltb bytes' (h * w) b,
+      le-ltb words' (4 * (h + w)) q,
+      r .units,
+    )

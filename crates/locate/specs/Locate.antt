@@ -120,3 +120,9 @@ pub record LocateGives (fit : ℕ) (b : Board) (planes : List Float) (edges scor
   pub planes-are : planes' ≡ cond (eqb fit 0) (lastOf (b .height) (b .width) planes .planes) planes
   pub edges-are : edges' ≡ cond (eqb fit 0) (edgesLeft (b .height) (b .width) planes edges) edges
   pub scores-are : scores' ≡ cond (eqb fit 0) (scoresLeft (b .height) (b .width) planes scores) scores
+
+-- scratch is free up to 01's lengths; entries further on keep their content
+pub record ScratchKept (h w : ℕ) (floats : List Float) (bytes words : List ℕ) (floats' : List Float) (bytes' words' : List ℕ) : Type 0 where
+  pub floats-kept : drop (h * w) floats' ≡ drop (h * w) floats
+  pub bytes-kept : drop (h * w) bytes' ≡ drop (h * w) bytes
+  pub words-kept : drop (4 * (h + w)) words' ≡ drop (4 * (h + w)) words

@@ -13,7 +13,7 @@ ghost use Rattle.strips.specs.States.{Scorable};
 ghost use Rattle.reading.specs.Reading.{quartersOf};
 ghost use Rattle.locate.specs.Search as Search;
 ghost use Rattle.locate.specs.Locate as Spec;
-ghost use Rattle.locate.specs.Locate.{fitAnswer, LocateGives};
+ghost use Rattle.locate.specs.Locate.{fitAnswer, LocateGives, ScratchKept};
 ghost use Rattle.locate.specs.Promise.{Promise};
 ghost use Rattle.locate.specs.Steps.{Fit, Looks, Narrows, Short, ReadsOn, Leads, ReadsFrom};
 use board::Board;
@@ -373,7 +373,7 @@ fn work(
     read_from(b, l, edges, scores, bytes, words)
 }
 
-// Locates the board in the lent planes. `floats`, `bytes` and `words` are scratch.
+// Locates the board in the lent planes. `floats`, `bytes` and `words` are scratch; what is lent of them beyond 01's lengths is kept.
 pub fn get_pos_pixel(
     b: Board,
     planes: &mut [f32],
@@ -385,6 +385,7 @@ pub fn get_pos_pixel(
 ) -> Located
     ensures gives { λ r. ⌜ LocateGives (fitAnswer (b .height) (b .width) (now (planes .entry)) (length (now (edges .entry))) (length (now (scores .entry))) (length (now (floats .entry))) (length (now (bytes .entry))) (length (now (words .entry)))) b (now (planes .entry)) (now (edges .entry)) (now (scores .entry)) r (now (planes .exit)) (now (edges .exit)) (now (scores .exit)) ⌝ }
     ensures promise { λ r. ⌜ Promise (fitAnswer (b .height) (b .width) (now (planes .entry)) (length (now (edges .entry))) (length (now (scores .entry))) (length (now (floats .entry))) (length (now (bytes .entry))) (length (now (words .entry)))) b (now (planes .entry)) r (now (scores .exit)) ⌝ }
+    ensures kept { λ _. ⌜ ScratchKept (b .height) (b .width) (now (floats .entry)) (now (bytes .entry)) (now (words .entry)) (now (floats .exit)) (now (bytes .exit)) (now (words .exit)) ⌝ }
 {
     let answer = fit_answer(
         b.height,
@@ -399,5 +400,15 @@ pub fn get_pos_pixel(
     if answer != 0 {
         return declined(b, answer, 0);
     }
-    work(b, planes, edges, scores, floats, bytes, words)
+    let n = b.height * b.width;
+    let m = 4 * (b.height + b.width);
+    work(
+        b,
+        planes,
+        edges,
+        scores,
+        &mut floats[..n],
+        &mut bytes[..n],
+        &mut words[..m],
+    )
 }

@@ -2,7 +2,7 @@
 // Laws for callers: proofs/Laws (an accepted reading has the winner of the remaining lines, and its pitch is at most 200).
 ghost use mathlib.Core.Path.{_≡_};
 ghost use Prim.Native.Nat.{ℕ, _+_, _-_, _*_, _≤_, _<_};
-ghost use lib.ListN.{length, getD};
+ghost use lib.ListN.{length, getD, drop};
 ghost use Rattle.lines.specs.Lines.{largest, InLimits, dropFirst, dropLast};
 ghost use Rattle.reading.specs.Reading.{pitchOf, countOf, accepted, quartersOf, pitched, readingOf, Readable, Pitched};
 
@@ -111,7 +111,8 @@ fn pitched_of(q: Quarters) -> Reading
 }
 
 pub fn get_line(list: &[u32], scratch: &mut [u32]) -> Reading
-    ensures { λ r. ⌜ r ≡ readingOf (now (list .entry)) (length (now (scratch .entry))) ⌝ }
+    ensures reads { λ r. ⌜ r ≡ readingOf (now (list .entry)) (length (now (scratch .entry))) ⌝ }
+    ensures kept { λ _. ⌜ drop (4 * length (now (list .entry))) (now (scratch .exit)) ≡ drop (4 * length (now (list .entry))) (now (scratch .entry)) ⌝ }
 {
     let n = list.len();
     if n < SHORTEST {
@@ -126,5 +127,5 @@ pub fn get_line(list: &[u32], scratch: &mut [u32]) -> Reading
     if HIGHEST < lines::largest_of(list) {
         return Reading::Refused(11);
     }
-    pitched_of(quarters_of(list, scratch))
+    pitched_of(quarters_of(list, &mut scratch[..4 * n]))
 }

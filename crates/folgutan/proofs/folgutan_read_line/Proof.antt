@@ -16,13 +16,17 @@ same-length : tie.Need-same-length
 same-length c = search needs
 
 returns : tie.Need-returns
-returns c = rw (sym (c .before .before .before .before .before .get-line .ensures) ∙ c .before .reading .given .1)
+returns c =
+    let line = c .before .before .before .before .before .get-line .ensures in
+    (rw (sym (line .0) ∙ c .before .reading .given .1), line .1)
 
 same-length-2 : tie.Need-same-length-2
 same-length-2 c = search needs
 
 returns-2 : tie.Need-returns-2
-returns-2 c = rw (sym (c .before .before .before .before .before .get-line .ensures) ∙ c .before .reading2 .given .1)
+returns-2 c =
+    let line = c .before .before .before .before .before .get-line .ensures in
+    (rw (sym (line .0) ∙ c .before .reading2 .given .1), line .1)
 
 pub folgutan-read-line-spec : {M : Type 1} → statement M
 folgutan-read-line-spec =
