@@ -2,7 +2,7 @@
 use Prim.Native.Nat.{ℕ, zero, suc, _+_, _-_, _*_, _/_, _%_, _^_, _≤_, _<_}
 use mathlib.Core.Path.{_≡_, refl, sym}
 use mathlib.Core.Logic.{_⊎_, ⊎-elim}
-use mathlib.Core.Bool.{Bool, true, false, not, _&&_, _||_, cond, true≢false}
+use mathlib.Core.Bool.{Bool, true, false, _&&_, _||_, cond, true≢false}
 use native.Mathlib.Nat.{mul-one, mul-le-mul-left, mul-le-mul-right, mul-lt-mul-of-pos-right, lt-of-lt-of-le, le-of-lt, eq-or-lt-of-le, mod-eq-of-lt, pow-suc, le-of-mul-le-mul-right, not-le-of-lt, lt-of-not-le}
 use native.Mathlib.Omega.{arith}
 use borrow.Author.Tests.{lt-leb, le-leb, ltb-true, ne-eqb, leb-true, leb-false}

@@ -9,8 +9,9 @@ use borrow.Author.Tests.{lt-ltb, le-ltb, le-leb, lt-leb}
 use lib.Dec.{ltb, leb}
 use lib.ListN.{length, getD, take, drop, length-append, List·getD-append}
 use lib.Seq.{drop-append-seam, take-append-seam, set-getD}
+use Rattle.lists.specs.Fill.{Filled}
 use Rattle.lists.specs.Tab.{tab}
-use Rattle.lists.proofs.Fill.{Filled, filled-none, filled-more, filled-beyond, length-tabFrom, getD-tab}
+use Rattle.lists.proofs.Fill.{filled-none, filled-more, filled-beyond, length-tabFrom, getD-tab}
 use Rattle.lines.specs.Lines.{largest, before, behind, smoothed, smooth}
 use Rattle.lines.proofs.Windows.{largest-at, largest-le, largest-take, largest-drop}
 

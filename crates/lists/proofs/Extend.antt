@@ -5,14 +5,9 @@ use mathlib.Core.List.{List, _++_}
 use native.Mathlib.Nat.{add-mul, one-mul, add-zero}
 use native.Mathlib.Omega.{arith}
 use lib.ListN.{length, set, drop, length-set}
+use Rattle.lists.specs.Fill.{Extends}
 use Rattle.lists.specs.Tab.{tab}
-use Rattle.lists.proofs.Fill.{Filled, filled-none, filled-more}
-
--- where `given` was filled by f up to `from`, and f has these n values there, it is now filled up to from + n
-pub record Extends {A : Type 0} (n from : ℕ) (value : ℕ → A) (before after : List A) : Type 0 where
-  pub len : length after ≡ length before
-  pub fills : (f : ℕ → A) → ((j : ℕ) → j < n → value j ≡ f (from + j)) → (given : List A)
-      → Filled f from given before → Filled f (from + n) given after
+use Rattle.lists.proofs.Fill.{filled-none, filled-more}
 
 module _ {A : Type 0} (from : ℕ) (value : ℕ → A) where
   pub extends-none : {out : List A} → Extends 0 from value out out

@@ -7,6 +7,7 @@ use native.Mathlib.Numerals.{add-one}
 use native.Mathlib.Omega.{arith}
 use lib.ListN.{length, set, drop, getD, length-set, List·getD-append}
 use lib.Seq.{drop-length, getD-append-add, getD-drop}
+use Rattle.lists.specs.Fill.{Filled}
 use Rattle.lists.specs.Tab.{tabFrom, tab}
 
 module _ {A : Type 0} where
@@ -51,11 +52,6 @@ module _ {A : Type 0} where
 
   fill-step : (n : ℕ) (f : ℕ → A) (d : List A) → n < length d → set (tab n f ++ drop n d) n (f n) ≡ tab (n + 1) f ++ drop (n + 1) d
   fill-step n f d l = let e : 0 + n ≡ n = omega arith in rw (add-one n) (rw e at (fill-suc 0 n f d l))
-
--- `out` is `given` with its first k entries replaced by f 0, f 1, ..
-pub record Filled {A : Type 0} (f : ℕ → A) (k : ℕ) (given out : List A) : Type 0 where
-  pub len : length out ≡ length given
-  pub is : out ≡ tab k f ++ drop k given
 
 pub filled-none : {A : Type 0} {f : ℕ → A} {d : List A} → Filled f 0 d d
 filled-none = record { len = refl; is = refl }

@@ -6,8 +6,8 @@ use native.Mathlib.Nat.{add-zero, add-mul, suc-mul, one-mul, mul-le-mul-right}
 use native.Mathlib.Omega.{arith}
 use lib.Arith.{digits-div, digits-mod}
 use Rattle.lists.specs.Tab.{tab, grid}
-use Rattle.lists.proofs.Fill.{Filled, tab-same, tab-add}
-use Rattle.lists.proofs.Extend.{Extends}
+use Rattle.lists.proofs.Fill.{tab-same, tab-add}
+use Rattle.lists.specs.Fill.{Filled, Extends}
 
 -- rows i to i + w of n rows end within them
 pub rows-fit : (i w n s : ℕ) → i + w ≤ n → i * s + w * s ≤ n * s

@@ -7,8 +7,9 @@ use native.Mathlib.Omega.{arith}
 use lib.ListN.{length, take, drop, getD, replicate, length-append, length-drop, take-append-drop, drop-of-length-le}
 use lib.Seq.{take-at, drop-at, take-all, drop-drop, drop-length, drop-append-le}
 use borrow.Rule.Slice.PartMut.{midOf, putMid, same-len-mid}
+use Rattle.lists.specs.Fill.{Filled}
 use Rattle.lists.specs.Tab.{tab}
-use Rattle.lists.proofs.Fill.{Filled, length-tabFrom, tabFrom-shift, tab-same, tab-add}
+use Rattle.lists.proofs.Fill.{length-tabFrom, tabFrom-shift, tab-same, tab-add}
 
 module _ {A : Type 0} where
   -- the front of a list is the list of its entries

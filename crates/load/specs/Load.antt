@@ -7,7 +7,6 @@ use lib.Dec.{eqb, ltb}
 use lib.IntN.{pos}
 use lib.Ieee.{Float, binary32, div, ofInt, ofBits}
 use lib.ListN.{length, getD, drop}
-use Rattle.board.specs.declared.Board.{Board}
 use Rattle.board.specs.Board.{leastSide, sidesOutside, fresh, blank}
 use Rattle.board.specs.Screen.{Screen, packed}
 use Rattle.load.specs.declared.Loaded.{Loaded}

@@ -17,7 +17,7 @@ use Rattle.reading.specs.declared.Quarters.{Quarters}
 use Rattle.reading.specs.declared.Quarters.the-variants.{Read, Refused}
 use Rattle.reading.specs.Reading.{pitchOf, quartersOf}
 use Rattle.locate.specs.declared.Located.{Located}
-use Rattle.locate.specs.Search.{Last, pictureOf, scanOf, lastOf}
+use Rattle.locate.specs.Search.{pictureOf, scanOf, lastOf}
 
 -- ---- the steps below the loop. They use the first edge picture with the last bounds.
 

@@ -34,7 +34,8 @@ pub record Last : Type 0 where
   pub narrowed : ℕ
   pub tooSmall : Bool
 
--- The loop from a screen that was narrowed n times. A narrowing lowers the height, so as many turns as it has rows are enough.
+-- The loop from a screen that was narrowed n times. A narrowing lowers the height, so as many turns as it has rows are
+-- enough, and the case without a turn is never met.
 abbrev pub searched : ℕ → ℕ → ℕ → List Float → ℕ → Last
 searched zero h w planes n = record { height = h; width = w; planes = planes; narrowed = n; tooSmall = true }
 searched (suc turns) h w planes n =

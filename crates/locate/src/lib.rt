@@ -3,14 +3,11 @@
 ghost use mathlib.Core.Path.{_≡_};
 ghost use mathlib.Core.Bool.{true, false};
 ghost use mathlib.Core.List.{_++_};
-ghost use Prim.Native.Nat.{ℕ, _+_, _-_, _*_, _≤_, _<_};
-ghost use lib.ListN.{length, getD, take, drop};
+ghost use Prim.Native.Nat.{_+_, _-_, _*_, _≤_, _<_};
+ghost use lib.ListN.{length, take, drop};
 ghost use Rattle.lists.specs.Picture.{points};
-ghost use Rattle.board.specs.Board.{leastSide, leastPlaneSide, sidesOutside};
-ghost use Rattle.gradient.specs.Gradient.{allUnits};
 ghost use Rattle.strips.specs.Strip.{columnScores, rowScores};
 ghost use Rattle.strips.specs.States.{Scorable};
-ghost use Rattle.reading.specs.Reading.{quartersOf};
 ghost use Rattle.locate.specs.Search as Search;
 ghost use Rattle.locate.specs.Locate as Spec;
 ghost use Rattle.locate.specs.Locate.{fitAnswer, LocateGives, ScratchKept};

@@ -9,8 +9,9 @@ use lib.Ieee.{Float}
 use lib.ListN.{length, take, drop, length-drop}
 use lib.Seq.{take-at}
 use borrow.Rule.Slice.PartMut.{midOf, putMid}
+use Rattle.lists.specs.Fill.{Filled}
 use Rattle.lists.specs.Tab.{tab}
-use Rattle.lists.proofs.Fill.{Filled, tab-same, length-tabFrom}
+use Rattle.lists.proofs.Fill.{tab-same, length-tabFrom}
 use Rattle.lists.proofs.Grid.{row-fits}
 use Rattle.lists.proofs.Part.{filled-part, mid-rest, put-behind}
 use Rattle.board.specs.Screen.{Screen, packed}

@@ -1,6 +1,6 @@
 -- 01, "Lines and votes" and the refusals of line reading: what a list of scores reads as.
 use Prim.Native.Nat.{ℕ, _+_, _-_, _*_, _≤_, _<_}
-use mathlib.Core.Bool.{Bool, cond, _||_}
+use mathlib.Core.Bool.{cond, _||_}
 use mathlib.Core.List.{List}
 use lib.Dec.{leb, ltb, eqb}
 use lib.Ieee.{Float, binary32, div, ofBits}

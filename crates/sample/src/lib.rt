@@ -7,7 +7,7 @@ ghost use lib.ListN.{length, getD, drop};
 ghost use Rattle.board.specs.Board.{mostSize};
 ghost use Rattle.sample.specs.Sample as Spec;
 ghost use Rattle.sample.specs.Sample.{sampledAt, cell, allBelow, cellAnswer, sampleAnswer, SampleGives};
-ghost use Rattle.lists.proofs.Extend.{Extends};
+ghost use Rattle.lists.specs.Fill.{Extends};
 ghost use Rattle.sample.specs.Copy.{AxisIn, rowValue, planeValue};
 use board::Board;
 

@@ -1,6 +1,6 @@
 -- 01, "Screen program": the first two lines of the input. Bytes are ASCII: 10 a line feed, 32 a space, 48 to 57 the digits.
 use Prim.Native.Nat.{ℕ, zero, suc, _+_, _-_, _*_}
-use mathlib.Core.Bool.{Bool, true, false, cond, _&&_, _||_}
+use mathlib.Core.Bool.{Bool, true, false, cond, _&&_}
 use mathlib.Core.List.{List, [], _∷_}
 use lib.Dec.{eqb, leb, ltb}
 use lib.ListN.{getD, drop}

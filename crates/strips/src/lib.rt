@@ -5,7 +5,7 @@ ghost use mathlib.Core.Path.{_≡_};
 ghost use mathlib.Core.Bool.{Bool};
 ghost use mathlib.Core.List.{_++_};
 ghost use Prim.Native.Nat.{ℕ, _≤_, _<_, _+_, _*_, _-_, max};
-ghost use lib.ListN.{length, getD, set, drop};
+ghost use lib.ListN.{length, getD, drop};
 ghost use Rattle.lists.specs.Tab.{tab};
 ghost use Rattle.lists.specs.Picture.{points};
 ghost use Rattle.strips.specs.Walk.{apart};

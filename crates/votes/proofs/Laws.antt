@@ -10,7 +10,7 @@ use borrow.Author.Tests.{eq-eqb}
 use lib.ListN.{length}
 use Rattle.votes.specs.Votes.{most, least, votes, winner, Searched, Ahead, Wins}
 use Rattle.votes.proofs.Best.{pair}
-use Rattle.votes.proofs.Winner.{nothing, winner-picks}
+use Rattle.votes.proofs.Winner.{winner-picks}
 
 shift : (n m : ℕ) → n * (4 * m) / 4 ≡ n * m
 shift n m = let e : n * (4 * m) ≡ n * m * 4 = rw (mul-comm 4 m, mul-assoc) in rw e (mul-div-cancel (n * m) (omega arith))

@@ -4,8 +4,9 @@ use mathlib.Core.Path.{_≡_}
 use native.Mathlib.Omega.{arith}
 use lib.Ieee.{nan, le}
 use lib.ListN.{length, getD}
+use Rattle.lists.specs.Fill.{Filled}
 use Rattle.lists.specs.Picture.{bit}
-use Rattle.lists.proofs.Fill.{Filled, filled-more}
+use Rattle.lists.proofs.Fill.{filled-more}
 use borrow.Author.Needs.{needs}
 use Rattle.edges.proofs.edges_of.Statement.{statement}
 use Rattle.edges.proofs.edges_of.Tie as tie

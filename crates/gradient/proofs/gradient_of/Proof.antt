@@ -5,8 +5,9 @@ use mathlib.Core.Path.{_≡_, sym, _∙_}
 use native.Mathlib.Nat.{zero-mul}
 use native.Mathlib.Omega.{arith}
 use denote.Ref.{now}
-use Rattle.lists.proofs.Fill.{Filled, filled-none}
-use Rattle.lists.proofs.Extend.{Extends, extends-none, extends-more}
+use Rattle.lists.specs.Fill.{Filled, Extends}
+use Rattle.lists.proofs.Fill.{filled-none}
+use Rattle.lists.proofs.Extend.{extends-none, extends-more}
 use Rattle.lists.proofs.Grid.{cell, row-whole}
 use Rattle.board.specs.Board.{leastPlaneSide}
 use Rattle.board.specs.Screen.{view}

@@ -5,7 +5,8 @@ use mathlib.Core.Path.{_≡_, refl}
 use native.Mathlib.Omega.{arith}
 use lib.ListN.{length, getD}
 use lib.Seq.{take-length}
-use Rattle.lists.proofs.Fill.{Filled, filled-none, filled-more}
+use Rattle.lists.specs.Fill.{Filled}
+use Rattle.lists.proofs.Fill.{filled-none, filled-more}
 use Rattle.lists.proofs.Part.{tab-take}
 use borrow.Author.Needs.{needs}
 use Rattle.lines.proofs.copy_into.Statement.{statement}

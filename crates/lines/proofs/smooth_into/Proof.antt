@@ -4,7 +4,8 @@ use mathlib.Core.Path.{_≡_, refl}
 use native.Mathlib.Omega.{arith}
 use denote.Ref.{now}
 use lib.ListN.{length}
-use Rattle.lists.proofs.Fill.{Filled, filled-more}
+use Rattle.lists.specs.Fill.{Filled}
+use Rattle.lists.proofs.Fill.{filled-more}
 use Rattle.lines.specs.Lines.{smoothed}
 use Rattle.lines.proofs.Smoothing.{smooth-begun, smooth-ended}
 use borrow.Author.Needs.{needs}

@@ -6,7 +6,8 @@ use native.Mathlib.Nat.{zero-mul, mul-assoc, div-lt-iff-lt-mul, mod-lt}
 use native.Mathlib.Omega.{arith}
 use denote.Ref.{now}
 use lib.ListN.{length-drop}
-use Rattle.lists.proofs.Fill.{Filled, filled-none}
+use Rattle.lists.specs.Fill.{Filled}
+use Rattle.lists.proofs.Fill.{filled-none}
 use Rattle.lists.proofs.Part.{mid-rest}
 use Rattle.board.specs.Screen.{view}
 use Rattle.narrow.specs.Narrow.{narrowed}

@@ -4,7 +4,8 @@ use mathlib.Core.Path.{_≡_, refl}
 use native.Mathlib.Omega.{arith}
 use denote.Ref.{now}
 use lib.ListN.{length}
-use Rattle.lists.proofs.Fill.{Filled, filled-none, filled-more}
+use Rattle.lists.specs.Fill.{Filled}
+use Rattle.lists.proofs.Fill.{filled-none, filled-more}
 use Rattle.board.specs.Screen.{view}
 use Rattle.narrow.specs.Narrow.{median}
 use borrow.Author.Needs.{needs}

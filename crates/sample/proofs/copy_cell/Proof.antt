@@ -6,8 +6,9 @@ use native.Mathlib.Omega.{arith}
 use lib.ListN.{length}
 use Rattle.sample.proofs.Answers.{Fit, fit}
 use Rattle.sample.proofs.Cells.{cellValue, Placed, place-in, value-is}
+use Rattle.lists.specs.Fill.{Extends}
 use Rattle.lists.proofs.Grid.{row-fits}
-use Rattle.lists.proofs.Extend.{Extends, extends-none, extends-row, extends-whole}
+use Rattle.lists.proofs.Extend.{extends-none, extends-row, extends-whole}
 use borrow.Author.Needs.{needs}
 use Rattle.sample.proofs.copy_cell.Statement.{statement}
 use Rattle.sample.proofs.copy_cell.Tie as tie

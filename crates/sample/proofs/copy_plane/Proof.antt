@@ -6,8 +6,9 @@ use native.Mathlib.Omega.{arith}
 use lib.Arith.{digits-div, digits-mod}
 use lib.ListN.{length, getD}
 use Rattle.sample.specs.Copy.{planeValue}
+use Rattle.lists.specs.Fill.{Extends}
 use Rattle.lists.proofs.Grid.{row-fits}
-use Rattle.lists.proofs.Extend.{Extends, extends-none, extends-row}
+use Rattle.lists.proofs.Extend.{extends-none, extends-row}
 use borrow.Author.Needs.{needs}
 use Rattle.sample.proofs.copy_plane.Statement.{statement}
 use Rattle.sample.proofs.copy_plane.Tie as tie

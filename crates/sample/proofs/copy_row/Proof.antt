@@ -4,7 +4,8 @@ use mathlib.Core.Path.{_≡_, refl}
 use native.Mathlib.Omega.{arith}
 use lib.ListN.{length, getD}
 use Rattle.sample.specs.Copy.{rowValue}
-use Rattle.lists.proofs.Extend.{Extends, extends-none, extends-more}
+use Rattle.lists.specs.Fill.{Extends}
+use Rattle.lists.proofs.Extend.{extends-none, extends-more}
 use borrow.Author.Needs.{needs}
 use Rattle.sample.proofs.copy_row.Statement.{statement}
 use Rattle.sample.proofs.copy_row.Tie as tie

@@ -5,8 +5,9 @@ use native.Mathlib.Nat.{add-assoc}
 use native.Mathlib.Omega.{arith}
 use borrow.Rule.Slice.PartMut.{midOf, mid-len}
 use lib.ListN.{length}
+use Rattle.lists.specs.Fill.{Filled}
 use Rattle.lists.specs.Picture.{points}
-use Rattle.lists.proofs.Fill.{Filled, filled-none, filled-all}
+use Rattle.lists.proofs.Fill.{filled-none, filled-all}
 use Rattle.lists.proofs.Part.{filled-whole}
 use Rattle.strips.specs.Strip.{at, score}
 use Rattle.strips.proofs.Bands.{band-in, scratch-in}

@@ -3,7 +3,8 @@ use Prim.Native.Nat.{_+_, _-_, _≤_}
 use mathlib.Core.Path.{_≡_, refl}
 use native.Mathlib.Omega.{arith}
 use lib.ListN.{length, getD}
-use Rattle.lists.proofs.Fill.{Filled, filled-none, filled-more, filled-all}
+use Rattle.lists.specs.Fill.{Filled}
+use Rattle.lists.proofs.Fill.{filled-none, filled-more, filled-all}
 use borrow.Author.Needs.{needs}
 use Rattle.strips.proofs.middle_lanes.Statement.{statement}
 use Rattle.strips.proofs.middle_lanes.Tie as tie
