@@ -27,8 +27,8 @@ returns c = (too-short _ _ (omega arith), refl)
 returns-2 : tie.Need-returns-2
 returns-2 c = (too-long _ _ (omega arith), refl)
 
-mul-if3 : tie.Need-mul-if3
-mul-if3 c = search needs
+mul-room : tie.Need-mul-room
+mul-room c = search needs
 
 returns-3 : tie.Need-returns-3
 returns-3 c = (no-room _ _ (omega arith) (omega arith) (omega arith), refl)
@@ -38,9 +38,6 @@ largest-of-requires c κs = search needs
 
 returns-4 : tie.Need-returns-4
 returns-4 c = (too-high _ _ (omega arith) (omega arith) (omega arith) (omega (arith, c .before .largest-of .ensures)), refl)
-
-mul-quarters-of : tie.Need-mul-quarters-of
-mul-quarters-of c = search needs
 
 slice-relend-prefix-quarters-of : tie.Need-slice-relend-prefix-quarters-of
 slice-relend-prefix-quarters-of c = search needs
@@ -70,11 +67,10 @@ get-line-spec =
     (tie.spec
     returns
     returns-2
-    mul-if3
+    mul-room
     returns-3
     largest-of-requires
     returns-4
-    mul-quarters-of
     slice-relend-prefix-quarters-of
     slice-aggregate-quarters-of
     quarters-of-requires
