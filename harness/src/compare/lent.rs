@@ -85,7 +85,8 @@ impl<T: Entry> Lent<T> {
         self.beyond(name, self.len)
     }
 
-    /// Where an entry after the first ones, or around, is not as before: for scratch of which only those are free.
+    /// Where an entry after the first `free` ones, or around, is not as before: for scratch that is
+    /// longer than asked for.
     pub fn beyond(&self, name: &str, free: usize) -> Option<String> {
         let own = &self.whole[MARGIN..MARGIN + free.min(self.len)];
         self.differs(name, own.iter().copied())

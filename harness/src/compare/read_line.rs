@@ -144,7 +144,7 @@ impl Cases {
     }
 
     fn one(&mut self, list: &[u32]) -> Result<(), String> {
-        self.with_scratch(list, 4 * list.len())
+        self.with_scratch(list, 4 * list.len() + self.count as usize % 20)
     }
 
     fn with_scratch(&mut self, list: &[u32], scratch: usize) -> Result<(), String> {
@@ -168,7 +168,7 @@ impl Cases {
         Err(format!(
             "case {}, list {shown}, scratch {scratch}: Rust {want:?}, port {have:?}, {}",
             self.count,
-            kept.unwrap_or_default()
+            kept.unwrap_or("scratch kept".into())
         ))
     }
 
