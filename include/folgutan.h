@@ -135,8 +135,8 @@ typedef struct {
  * edges: at least h * w bytes.
  * scores: at least h + w entries.
  * scratch_f32, scratch_u8: at least h * w entries each; scratch_u32: at least
- *   4 * (h + w). Their content does not matter, and all of it is free
- *   afterwards, on refusals too.
+ *   4 * (h + w). What these entries hold does not matter, and they are free
+ *   afterwards, on refusals too. Entries further on keep their content.
  *
  * FOLGUTAN_DONE: the record is the board's. r_1, c_1, r0, c0 and the pitches
  *   are in pixels of the picture that was read; the sides are those of the
@@ -185,8 +185,9 @@ typedef struct {
 /* Reads pitch, offset and count of a list of scores (01, Lines and votes).
  *
  * list: the scores, and only they: its length is the number of scores.
- * scratch: at least 4 * list_len entries. Its content does not matter, and all
- *   of it is free afterwards, on refusals too.
+ * scratch: at least 4 * list_len entries. What these entries hold does not
+ *   matter, and they are free afterwards, on refusals too. Entries further on
+ *   keep their content.
  *
  * FOLGUTAN_DONE: the reading.
  * Refusals, the first that holds:

@@ -110,6 +110,7 @@ fn pitched_of(q: Quarters) -> Reading
     }
 }
 
+// The scratch that is lent beyond 4·L entries is kept.
 pub fn get_line(list: &[u32], scratch: &mut [u32]) -> Reading
     ensures reads { λ r. ⌜ r ≡ readingOf (now (list .entry)) (length (now (scratch .entry))) ⌝ }
     ensures kept { λ _. ⌜ drop (4 * length (now (list .entry))) (now (scratch .exit)) ≡ drop (4 * length (now (list .entry))) (now (scratch .entry)) ⌝ }
@@ -121,11 +122,12 @@ pub fn get_line(list: &[u32], scratch: &mut [u32]) -> Reading
     if LONGEST < n {
         return Reading::Refused(1);
     }
-    if scratch.len() < 4 * n {
+    let room = 4 * n;
+    if scratch.len() < room {
         return Reading::Refused(3);
     }
     if HIGHEST < lines::largest_of(list) {
         return Reading::Refused(11);
     }
-    pitched_of(quarters_of(list, &mut scratch[..4 * n]))
+    pitched_of(quarters_of(list, &mut scratch[..room]))
 }

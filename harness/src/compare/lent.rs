@@ -82,7 +82,13 @@ impl<T: Entry> Lent<T> {
 
     /// Where an entry around is not as before: for scratch, which is free itself.
     pub fn around(&self, name: &str) -> Option<String> {
-        let own = &self.whole[MARGIN..MARGIN + self.len];
+        self.beyond(name, self.len)
+    }
+
+    /// Where an entry after the first `free` ones, or around, is not as before: for scratch that is
+    /// longer than asked for.
+    pub fn beyond(&self, name: &str, free: usize) -> Option<String> {
+        let own = &self.whole[MARGIN..MARGIN + free.min(self.len)];
         self.differs(name, own.iter().copied())
     }
 }

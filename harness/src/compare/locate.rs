@@ -259,11 +259,13 @@ impl Cases {
                 words: words.slice(),
             },
         );
-        let around = || {
+        let area = call.given.height.saturating_mul(call.given.width);
+        let sides = call.given.height.saturating_add(call.given.width);
+        let scratch_kept = || {
             floats
-                .around("scratch of binary32")
-                .or_else(|| bytes.around("scratch of bytes"))
-                .or_else(|| words.around("scratch of words"))
+                .beyond("scratch of binary32", area)
+                .or_else(|| bytes.beyond("scratch of bytes", area))
+                .or_else(|| words.beyond("scratch of words", sides.saturating_mul(4)))
         };
         if let Some(answer) = call.rule() {
             self.answers[answer as usize] += 1;
@@ -273,7 +275,7 @@ impl Cases {
                 .or_else(|| lent_planes.differs("planes", values))
                 .or_else(|| edges.differs("edges", []))
                 .or_else(|| scores.differs("scores", []))
-                .or_else(around);
+                .or_else(scratch_kept);
         }
         let want = match wanted(pixels, call) {
             Ok(want) => want,
@@ -289,7 +291,7 @@ impl Cases {
             .or_else(|| lent_planes.differs("planes", want.planes.iter().copied().chain(zeros)))
             .or_else(|| edges.differs("edges", want.edges.iter().flatten().map(|&e| e as u8)))
             .or_else(|| scores.differs("scores", want.scores.iter().map(|&s| s as u32)))
-            .or_else(around)
+            .or_else(scratch_kept)
     }
 }
 

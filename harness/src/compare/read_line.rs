@@ -1,6 +1,7 @@
 //! Line reading beside `get_line`. Its panic is refusal 6, its pitch 0.0 refusal 7; the votes come
 //! from the probed copy. Refusals 1, 3 and 11 are held to the rule.
 
+use super::lent::Lent;
 use super::{Outcome, Run, Tally};
 use crate::original::{probed, steps};
 use crate::port::{self, Reading};
@@ -135,22 +136,21 @@ struct Cases {
     none: u64,
     far: u64,
     board: probed::ImageBoard,
-    scratch: Vec<u32>,
 }
 
 impl Cases {
     fn new() -> Cases {
-        let board = probed::nothing();
-        Cases { count: 0, read: 0, none: 0, far: 0, board, scratch: vec![7; 4 * 5000 + 30] }
+        Cases { count: 0, read: 0, none: 0, far: 0, board: probed::nothing() }
     }
 
     fn one(&mut self, list: &[u32]) -> Result<(), String> {
-        self.with_scratch(list, 4 * list.len())
+        self.with_scratch(list, 4 * list.len() + self.count as usize % 20)
     }
 
     fn with_scratch(&mut self, list: &[u32], scratch: usize) -> Result<(), String> {
         self.count += 1;
-        let have = port::read_line(list, &mut self.scratch[..scratch]);
+        let mut lent = Lent::new(scratch);
+        let have = port::read_line(list, lent.slice());
         let want = self.wanted(list, scratch)?;
         match want.answer {
             0 => self.read += 1,
@@ -159,14 +159,16 @@ impl Cases {
             _ => (),
         }
         let key = |r: Reading| (r.answer, r.pitch.to_bits(), r.offset, r.count, r.votes);
-        if key(want) == key(have) {
+        let kept = lent.beyond("scratch", 4 * list.len());
+        if key(want) == key(have) && kept.is_none() {
             return Ok(());
         }
         let shown =
             if list.len() <= 300 { format!("{list:?}") } else { format!("of {}", list.len()) };
         Err(format!(
-            "case {}, list {shown}, scratch {scratch}: Rust {want:?}, port {have:?}",
-            self.count
+            "case {}, list {shown}, scratch {scratch}: Rust {want:?}, port {have:?}, {}",
+            self.count,
+            kept.unwrap_or("scratch kept".into())
         ))
     }
 

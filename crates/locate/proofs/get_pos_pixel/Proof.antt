@@ -1,9 +1,8 @@
 -- `locate::get_pos_pixel` meets its contract, the promise with it: a refusal by the checks, or the work on scratch of 01's lengths.
-use Prim.Native.Nat.{_+_, _*_}
 use mathlib.Core.Path.{_≡_, refl, sym, _∙_}
 use native.Mathlib.Omega.{arith}
 use denote.Ref.{now}
-use lib.ListN.{length, take}
+use lib.ListN.{length, length-take}
 use lib.Seq.{drop-at, length-take-le}
 use Rattle.locate.specs.Locate.{fitAnswer}
 use Rattle.locate.proofs.Checks.{Fit, fit, fit-with}
@@ -22,22 +21,6 @@ fits : (c : tie.Else1) →
     let a = c .before .before .before .before .before .before .before .before .before .args in
     Fit (a .b .height) (a .b .width) (now (a .planes)) (length (now (a .edges))) (length (now (a .scores))) (length (now (a .floats))) (length (now (a .bytes))) (length (now (a .words)))
 fits c = fit _ _ (now (c .before .before .before .before .before .before .before .before .before .args .planes)) _ _ _ _ _ (checked c)
-
--- the parts that are lent on have 01's lengths
-floats-part : (c : tie.Else1) →
-    let a = c .before .before .before .before .before .before .before .before .before .args in
-    length (take (a .b .height * a .b .width) (now (a .floats))) ≡ a .b .height * a .b .width
-floats-part c = length-take-le _ _ (fits c .slices .floats-in)
-
-bytes-part : (c : tie.Else1) →
-    let a = c .before .before .before .before .before .before .before .before .before .args in
-    length (take (a .b .height * a .b .width) (now (a .bytes))) ≡ a .b .height * a .b .width
-bytes-part c = length-take-le _ _ (fits c .slices .bytes-in)
-
-words-part : (c : tie.Else1) →
-    let a = c .before .before .before .before .before .before .before .before .before .args in
-    length (take (4 * (a .b .height + a .b .width)) (now (a .words))) ≡ 4 * (a .b .height + a .b .width)
-words-part c = length-take-le _ _ (fits c .slices .words-in)
 
 fit-answer-requires : tie.Need-fit-answer-requires
 fit-answer-requires c κs = search needs
@@ -64,27 +47,27 @@ mul-m : tie.Need-mul-m
 mul-m c = omega (arith, fits (c .before .before) .sides .high-h, fits (c .before .before) .sides .high-w)
 
 slice-relend-prefix-work : tie.Need-slice-relend-prefix-work
-slice-relend-prefix-work c = fits (c .before .before .before .before .before) .slices .floats-in
+slice-relend-prefix-work c = omega (arith, fits (c .before .before .before .before .before) .slices .floats-in)
 
 slice-aggregate-work : tie.Need-slice-aggregate-work
-slice-aggregate-work c = sym (floats-part (c .before .before .before .before .before .before))
+slice-aggregate-work c = sym (length-take-le _ _ (omega (arith, fits (c .before .before .before .before .before .before) .slices .floats-in)))
 
 slice-relend-prefix-work-2 : tie.Need-slice-relend-prefix-work-2
-slice-relend-prefix-work-2 c = fits (c .before .before .before .before .before .before) .slices .bytes-in
+slice-relend-prefix-work-2 c = omega (arith, fits (c .before .before .before .before .before .before) .slices .bytes-in)
 
 slice-aggregate-work-2 : tie.Need-slice-aggregate-work-2
-slice-aggregate-work-2 c = sym (bytes-part (c .before .before .before .before .before .before .before))
+slice-aggregate-work-2 c = sym (length-take-le _ _ (omega (arith, fits (c .before .before .before .before .before .before .before) .slices .bytes-in)))
 
 slice-relend-prefix-work-3 : tie.Need-slice-relend-prefix-work-3
-slice-relend-prefix-work-3 c = fits (c .before .before .before .before .before .before .before) .slices .words-in
+slice-relend-prefix-work-3 c = omega (arith, fits (c .before .before .before .before .before .before .before) .slices .words-in)
 
 slice-aggregate-work-3 : tie.Need-slice-aggregate-work-3
-slice-aggregate-work-3 c = sym (words-part (c .before .before .before .before .before .before .before .before))
+slice-aggregate-work-3 c = sym (length-take-le _ _ (omega (arith, fits (c .before .before .before .before .before .before .before .before) .slices .words-in)))
 
 work-requires : tie.Need-work-requires
 work-requires c κs =
     let e = c .before .before .before .before .before .before .before .before in
-    fit-with _ _ (now (e .before .before .before .before .before .before .before .before .before .args .planes)) _ _ _ _ _ (checked e) (omega (arith, floats-part e)) (omega (arith, bytes-part e)) (omega (arith, words-part e))
+    fit-with _ _ (now (e .before .before .before .before .before .before .before .before .before .args .planes)) _ _ _ _ _ (checked e) (simp length-take (omega (arith, fits e .slices .floats-in))) (simp length-take (omega (arith, fits e .slices .bytes-in))) (simp length-take (omega (arith, fits e .slices .words-in)))
 
 same-length-2 : tie.Need-same-length-2
 same-length-2 c = search needs
@@ -116,9 +99,9 @@ returns-2 c =
       (
         is .1,
         record {
-          floats-kept = drop-at (left .1 .1 .1 .1 .0) _ _ (same .1 .1 .1 .1 .0 ∙ floats-part e);
-          bytes-kept = drop-at (left .1 .1 .1 .1 .1 .0) _ _ (same .1 .1 .1 .1 .1 .0 ∙ bytes-part e);
-          words-kept = drop-at (left .1 .1 .1 .1 .1 .1 .0) _ _ (same .1 .1 .1 .1 .1 .1 .0 ∙ words-part e);
+          floats-kept = drop-at (left .1 .1 .1 .1 .0) _ _ (same .1 .1 .1 .1 .0 ∙ length-take-le _ _ (fits e .slices .floats-in));
+          bytes-kept = drop-at (left .1 .1 .1 .1 .1 .0) _ _ (same .1 .1 .1 .1 .1 .0 ∙ length-take-le _ _ (fits e .slices .bytes-in));
+          words-kept = drop-at (left .1 .1 .1 .1 .1 .1 .0) _ _ (same .1 .1 .1 .1 .1 .1 .0 ∙ length-take-le _ _ (fits e .slices .words-in));
         },
       ),
     )
