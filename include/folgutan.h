@@ -139,8 +139,9 @@ typedef struct {
  *   afterwards, on refusals too. Entries further on keep their content.
  *
  * FOLGUTAN_DONE: the record is the board's. r_1, c_1, r0, c0 and the pitches
- *   are in pixels of the picture that was read; the sides are those of the
- *   planes as they are left. The count of rows or of columns can be 0.
+ *   are in pixels of the edge picture, which is that of the planes as they
+ *   came in, also after a narrowing; the sides are those of the planes as they
+ *   are left. The count of rows or of columns can be 0.
  * Refusals, the first that holds:
  *   FOLGUTAN_BAD_SIDE     h or w is outside 12 to 4096
  *   FOLGUTAN_SHORT_SLICE  one of the six slices is too short
