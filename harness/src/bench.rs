@@ -18,6 +18,9 @@ use std::time::{Duration, Instant};
 pub const SCREENS: &[(usize, usize)] = &[(640, 480), (1920, 1080), (3840, 2160), (4000, 4000)];
 const USUAL: (usize, usize) = (1920, 1080);
 
+/// How many noisy boards the threshold is measured on: its time depends on the screen's values.
+const NOISY: u64 = 24;
+
 const WARM: usize = 1;
 /// Each side is measured this often at least, and more often while it takes little time.
 const REPEATS: usize = 5;
@@ -28,7 +31,7 @@ const MOST_REPEATS: usize = 40;
 pub fn run(only: Option<&str>) {
     let wanted = |operation: &str| only.map_or(true, |word| operation.contains(word));
     println!(
-        "{:<20} {:>9} {:>10} {:>14} {:>14} {:>8}",
+        "{:<20} {:>10} {:>10} {:>14} {:>14} {:>8}",
         "operation", "kind", "screen", "Rust ns/pixel", "port ns/pixel", "ratio"
     );
     if wanted("load") {
@@ -42,6 +45,12 @@ pub fn run(only: Option<&str>) {
             if wanted(operation) {
                 row(operation, kind.name(), width, height, measure(kind, height, width));
             }
+        }
+    }
+    if wanted("threshold, edges") {
+        for seed in 1..=NOISY {
+            let (board, times) = edges::on_noisy(seed, height, width);
+            row("threshold, edges", &board, width, height, times);
         }
     }
     for kind in [Kind::Clean, Kind::Noisy, Kind::Blank, Kind::Narrowed] {
@@ -98,7 +107,7 @@ fn row(
     let screen = format!("{width}x{height}");
     let ratio = each(port) / each(rust);
     println!(
-        "{operation:<20} {kind:>9} {screen:>10} {:>14.2} {:>14.2} {ratio:>8.3}",
+        "{operation:<20} {kind:>10} {screen:>10} {:>14.2} {:>14.2} {ratio:>8.3}",
         each(rust),
         each(port)
     );

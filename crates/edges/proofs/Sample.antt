@@ -31,7 +31,7 @@ taken s side = (3 * side / 4 - side / 4) / s
 
 -- where row i of a part begins
 abbrev pub start : ℕ → ℕ → ℕ → ℕ → ℕ → ℕ
-start s p row column i = (row / 4 + (s * i + 3 * i % s)) * column + (column / 4 + 5 * i % p * taken p column)
+start s p row column i = (row / 4 + (s * i + i * i / 7 % s)) * column + (column / 4 + 3 * i % p * taken p column)
 
 -- the value in row i and column j of a part
 abbrev pub partAt : ℕ → ℕ → ℕ → ℕ → List Float → ℕ → ℕ → Float
@@ -47,13 +47,13 @@ within s side i k z h =
 -- row i of a part lies among the gradients
 pub row-in : (s p row column i : ℕ) → 1 ≤ s → 1 ≤ p → i < taken s row → start s p row column i + taken p column ≤ row * column
 row-in s p row column i y z h =
-    let q : row / 4 + (s * i + 3 * i % s) + 1 ≤ row = omega (arith, within s row i (3 * i) y h) in
+    let q : row / 4 + (s * i + i * i / 7 % s) + 1 ≤ row = omega (arith, within s row i (i * i / 7) y h) in
     let n = taken p column in
-    let e : 5 * i % p + 1 ≤ p = omega (arith, mod-lt (5 * i) z) in
-    let f : (5 * i % p + 1) * n ≤ p * n = mul-le-mul-right n e in
+    let e : 3 * i % p + 1 ≤ p = omega (arith, mod-lt (3 * i) z) in
+    let f : (3 * i % p + 1) * n ≤ p * n = mul-le-mul-right n e in
     let l : n * p ≤ 3 * column / 4 - column / 4 = div-mul-le-self (3 * column / 4 - column / 4) p in
     omega
-    (arith, mul-le-mul-right column q, add-mul (row / 4 + (s * i + 3 * i % s)) 1 column, one-mul column, add-mul (5 * i % p) 1 n, one-mul n, mul-comm p n)
+    (arith, mul-le-mul-right column q, add-mul (row / 4 + (s * i + i * i / 7 % s)) 1 column, one-mul column, add-mul (3 * i % p) 1 n, one-mul n, mul-comm p n)
 
 pub length-part : (s p row column : ℕ) (g : List Float) → length (part s p row column g) ≡ taken s row * taken p column
 length-part s p row column g = length-tabFrom 0 (taken s row * taken p column) _
@@ -86,8 +86,8 @@ part-all row column g =
     _
     _
     (λ k h.
-    let y : 1 * (k / n) + 3 * (k / n) % 1 ≡ k / n = omega arith in
-    let z : 5 * (k / n) % 1 ≡ 0 = omega arith in
+    let y : 1 * (k / n) + k / n * (k / n) / 7 % 1 ≡ k / n = omega arith in
+    let z : 3 * (k / n) % 1 ≡ 0 = omega arith in
     ap (λ (p : ℕ). getD g p nan) (rw (y, z) (omega (arith, zero-mul n)))))
 
 pub length-sample : (row column : ℕ) (g : List Float) → length (sample row column g) ≡ (3 * row / 4 - row / 4) * (3 * column / 4 - column / 4)

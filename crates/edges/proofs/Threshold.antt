@@ -1,5 +1,5 @@
 -- The threshold by its bits: the clipped bits of the ranked entry, and halving their range by counting. Assumes nothing.
-use Prim.Native.Nat.{ℕ, _-_, _<_, max, min}
+use Prim.Native.Nat.{ℕ, _-_, _≤_, _<_, max, min}
 use mathlib.Core.Path.{_≡_, refl, sym, ap, _∙_}
 use mathlib.Core.Bool.{Bool, true, false, cond}
 use mathlib.Core.List.{List}
@@ -14,7 +14,7 @@ use Rattle.rank.specs.Rank.{entry, countAtMost}
 use Rattle.rank.proofs.Entry.{at-least, at-most}
 use Rattle.rank.proofs.Members.{entry-has}
 use Rattle.edges.specs.Edges.{sample, clip, rankOf, threshold}
-use Rattle.edges.specs.Search.{sought, Placed, Halved, Holds}
+use Rattle.edges.specs.Search.{sought, Halved, Holds}
 use Rattle.edges.specs.declared.Range.{Range}
 use Rattle.edges.proofs.Sample.{AllAre}
 
@@ -60,60 +60,43 @@ threshold-is row column g rank e = rw e
 pub holds-all : (l : List Float) (rank : ℕ) (r : Range) → AllAre Plain l → r .lo ≡ 0x3C23D70A → r .hi ≡ 0x3F800000 → Holds l rank r
 holds-all l rank r p d e =
     record {
+      some = omega arith;
       floor = omega arith;
       ceiling = omega arith;
       low = λ h. omega (arith, sought-is l rank h p);
       high = λ h. omega (arith, sought-is l rank h p);
     }
 
--- where the range is the same, what it holds is
-pub holds-same : {l : List Float} {rank : ℕ} {r s : Range} → Holds l rank r → s .lo ≡ r .lo → s .hi ≡ r .hi → Holds l rank s
-holds-same h d e =
-    record {
-      floor = omega (arith, h .floor);
-      ceiling = omega (arith, h .ceiling);
-      low = λ k. omega (arith, h .low k);
-      high = λ k. omega (arith, h .high k);
-    }
-
--- the half that is taken holds the bits still, and is smaller
-pub holds-half : {l : List Float} {rank count : ℕ} {r s : Range} → AllAre Plain l → Holds l rank r → Placed r → r .lo < r .hi
-    → count ≡ countAtMost (toBits binary32) (r .mid) l → Halved r rank count s → Holds l rank s × (s .hi - s .lo < r .hi - r .lo)
-holds-half {l} {rank} {count} {r} {s} p h m t e c = at (ltb rank count) refl
+-- the part of a range that is taken lies in it, and is smaller
+pub half-inside : {mid rank count : ℕ} {r s : Range} → r .lo ≤ mid → mid < r .hi → Halved r mid rank count s
+    → (r .lo ≤ s .lo) × (s .lo ≤ s .hi) × (s .hi ≤ r .hi) × (s .hi - s .lo < r .hi - r .lo)
+half-inside {mid} {rank} {count} {r} {s} from to c = at (ltb rank count) refl
   where
-    mid-in : r .mid < r .hi
-    mid-in = m .2 t
+    at : (b : Bool) → ltb rank count ≡ b → (r .lo ≤ s .lo) × (s .lo ≤ s .hi) × (s .hi ≤ r .hi) × (s .hi - s .lo < r .hi - r .lo)
+    at true q = let k = c .lower (ltb-true rank count q) in (omega (arith, k), omega (arith, k), omega (arith, k), omega (arith, k))
+    at false q = let k = c .upper (ltb-false rank count q) in (omega (arith, k), omega (arith, k), omega (arith, k), omega (arith, k))
 
-    at : (b : Bool) → ltb rank count ≡ b → Holds l rank s × (s .hi - s .lo < r .hi - r .lo)
-    at true q =
-        let k = c .lower (ltb-true rank count q) in (
-          record {
-            floor = omega (arith, h .floor, k);
-            ceiling = omega (arith, h .ceiling, m .1, k);
-            low = λ j. omega (arith, h .low j, k);
-            high = λ j.
-                omega (
-                  arith,
-                  k,
-                  m .0,
-                  h .floor,
-                  h .ceiling,
-                  mid-in,
-                  sought-is l rank j p,
-                  at-least (toBits binary32) nan (r .mid) l rank j (omega (arith, ltb-true rank count q)),
-                );
-          },
-          omega (arith, k, m .0, mid-in),
-        )
-    at false q =
-        let k = c .upper (ltb-false rank count q) in (
-          record {
-            floor = omega (arith, h .floor, k, m .0);
-            ceiling = omega (arith, h .ceiling, k);
-            low = λ j.
-                omega
-                (arith, k, h .ceiling, mid-in, sought-is l rank j p, at-most (toBits binary32) nan (r .mid) l rank j (omega (arith, ltb-false rank count q)));
-            high = λ j. omega (arith, h .high j, k);
-          },
-          omega (arith, k, m .0, mid-in),
-        )
+-- it holds the bits still
+pub holds-half : {l : List Float} {mid rank count : ℕ} {r s : Range} → AllAre Plain l → Holds l rank r → r .lo ≤ mid → mid < r .hi
+    → count ≡ countAtMost (toBits binary32) mid l → Halved r mid rank count s → Holds l rank s
+holds-half {l} {mid} {rank} {count} {r} {s} p h from to e c =
+    let i = half-inside from to c in
+    record {
+      some = i .1;
+      floor = omega (arith, h .floor, i .0);
+      ceiling = omega (arith, h .ceiling, i .2);
+      low = λ j. low-at (ltb rank count) refl j;
+      high = λ j. high-at (ltb rank count) refl j;
+    }
+  where
+    low-at : (b : Bool) → ltb rank count ≡ b → rank < length l → s .lo ≤ sought l rank
+    low-at true q j = omega (arith, h .low j, c .lower (ltb-true rank count q))
+    low-at false q j =
+        let above = at-most (toBits binary32) nan mid l rank j (omega (arith, ltb-false rank count q)) in
+        omega (arith, c .upper (ltb-false rank count q), h .ceiling, sought-is l rank j p, above)
+
+    high-at : (b : Bool) → ltb rank count ≡ b → rank < length l → sought l rank ≤ s .hi
+    high-at true q j =
+        let up-to = at-least (toBits binary32) nan mid l rank j (omega (arith, ltb-true rank count q)) in
+        omega (arith, c .lower (ltb-true rank count q), h .floor, sought-is l rank j p, up-to)
+    high-at false q j = omega (arith, h .high j, c .upper (ltb-false rank count q))

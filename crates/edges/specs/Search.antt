@@ -1,5 +1,5 @@
 -- The search for the threshold's bits by counting, over parts of the sample. Only the contracts inside this crate need it.
-use Prim.Native.Nat.{ℕ, _+_, _-_, _*_, _/_, _%_, _^_, _≤_, _<_}
+use Prim.Native.Nat.{ℕ, _+_, _-_, _*_, _/_, _%_, _≤_, _<_}
 use mathlib.Core.Path.{_≡_}
 use mathlib.Core.List.{List}
 use lib.Ieee.{Float, nan, binary32, toBits}
@@ -9,31 +9,28 @@ use Rattle.rank.specs.Rank.{entry}
 use Rattle.edges.specs.Edges.{clip}
 use Rattle.edges.specs.declared.Range.{Range}
 
--- A part of the sample: one row of each s, and of it one p-th of the columns; which row and which p-th changes from one to the next by 3 and
--- by 5, so that all come in turn where these share no factor with s and p. With 1 and 1 it is the sample.
+-- A part of the sample: one row of each s, and of it one p-th of the columns. Which row of the s is taken changes without a period that the
+-- lines of a board could share. With 1 and 1 it is the sample.
 abbrev pub part : ℕ → ℕ → ℕ → ℕ → List Float → List Float
 part s p row column g =
     let n = (3 * column / 4 - column / 4) / p in
     grid
     ((3 * row / 4 - row / 4) / s)
     n
-    (λ i j. getD g ((row / 4 + (s * i + 3 * i % s)) * column + (column / 4 + 5 * i % p * n) + j) nan)
+    (λ i j. getD g ((row / 4 + (s * i + i * i / 7 % s)) * column + (column / 4 + 3 * i % p * n) + j) nan)
 
 -- the bits of the clipped entry `rank`
 abbrev pub sought : List Float → ℕ → ℕ
 sought l rank = toBits binary32 (clip (entry (toBits binary32) nan l rank))
 
--- mid lies in the range, before its end
-abbrev pub Placed : Range → Type 0
-Placed r = (r .lo ≤ r .mid) × (r .mid ≤ r .hi) × (r .lo < r .hi → r .mid < r .hi) × (1 ≤ r .reach) × (r .reach ≤ 2 ^ 26)
-
 -- up to mid where more than `rank` values are at most mid, else above it
-pub record Halved (r : Range) (rank count : ℕ) (s : Range) : Type 0 where
-  pub lower : rank < count → (s .lo ≡ r .lo) × (s .hi ≡ r .mid)
-  pub upper : count ≤ rank → (s .lo ≡ r .mid + 1) × (s .hi ≡ r .hi)
+pub record Halved (r : Range) (mid rank count : ℕ) (s : Range) : Type 0 where
+  pub lower : rank < count → (s .lo ≡ r .lo) × (s .hi ≡ mid)
+  pub upper : count ≤ rank → (s .lo ≡ mid + 1) × (s .hi ≡ r .hi)
 
 -- the range lies within the limits and holds the bits sought, if there is such an entry
 pub record Holds (l : List Float) (rank : ℕ) (r : Range) : Type 0 where
+  pub some : r .lo ≤ r .hi
   pub floor : 0x3C23D70A ≤ r .lo
   pub ceiling : r .hi ≤ 0x3F800000
   pub low : rank < length l → r .lo ≤ sought l rank

@@ -9,22 +9,20 @@ ghost use Rattle.lists.specs.Tab.{tab};
 ghost use Rattle.lists.specs.Picture.{bit};
 ghost use Rattle.rank.specs.Rank.{countAtMost};
 ghost use Rattle.edges.specs.Edges.{sample, rankOf, threshold, marks, AllPlain};
-ghost use Rattle.edges.specs.Search.{part, sought, Placed, Halved, Holds};
+ghost use Rattle.edges.specs.Search.{part, sought, Halved};
 
 // The bits of 0.01 and of 1.0, the limits of the threshold.
 const LEAST_BITS: u32 = 0x3C23D70A;
 
 const MOST_BITS: u32 = 0x3F800000;
 
-// A guess takes one row of the sample in EVERY, and of it one of PARTS parts: a fifteenth of the values.
-const EVERY: usize = 5;
+// A guess takes one row of the sample in EVERY, and of it one of PARTS parts.
+const EVERY: usize = 6;
 
-const PARTS: usize = 3;
+const PARTS: usize = 11;
 
-const SHARE: u64 = 15;
-
-// A reach that leaves only the halving.
-const FAR: u32 = 0x4000000;
+// After so many guesses that were counted, the range is halved.
+const GUESSES: u32 = 8;
 
 // The place in the sorted sample of m.
 fn rank_of(m: usize) -> u64
@@ -73,19 +71,17 @@ fn count_part(every: usize, parts: usize, row: usize, column: usize, g: &[f32], 
     let columns = middle(column) / parts;
     let mut count: u32 = 0;
     for i in 0..rows {
-        let from = (row / 4 + (every * i + 3 * i % every)) * column
-            + (column / 4 + 5 * i % parts * columns);
+        let from = (row / 4 + (every * i + i * i / 7 % every)) * column
+            + (column / 4 + 3 * i % parts * columns);
         count = count + count_row(g, from, columns, bits);
     }
     count
 }
 
-// A range that holds the bits sought, where to count next, and how far from there the count after it may lie.
+// A range that holds the bits sought.
 struct Range {
     lo: u32,
     hi: u32,
-    mid: u32,
-    reach: u32,
 }
 
 fn smaller(a: u32, b: u32) -> u32
@@ -94,150 +90,148 @@ fn smaller(a: u32, b: u32) -> u32
     if a < b { a } else { b }
 }
 
-// The next reach: it grows until only the halving is left.
-fn wider(reach: u32) -> u32
-    requires { ⌜ (1 ≤ reach) × (reach ≤ 2 ^ 26) ⌝ }
-    ensures { λ r. ⌜ (1 ≤ r) × (r ≤ 2 ^ 26) ⌝ }
+fn half(r: Range) -> u32
+    requires { ⌜ r .lo < r .hi ⌝ }
+    ensures { λ mid. ⌜ (r .lo ≤ mid) × (mid < r .hi) ⌝ }
 {
-    if reach < 0x1000000 { 4 * reach } else { reach }
+    r.lo + (r.hi - r.lo) / 2
 }
 
-// Up to mid; the next count is below it.
-fn lower(r: Range) -> Range
-    requires { ⌜ Placed r × (r .lo < r .hi) ⌝ }
-    ensures { λ s. ⌜ Placed s × (s .lo ≡ r .lo) × (s .hi ≡ r .mid) ⌝ }
-{
-    Range {
-        lo: r.lo,
-        hi: r.mid,
-        mid: r.mid - smaller(r.reach, (r.mid - r.lo + 1) / 2),
-        reach: wider(r.reach),
-    }
-}
-
-// Above mid; the next count is from there on.
-fn upper(r: Range) -> Range
-    requires { ⌜ Placed r × (r .lo < r .hi) ⌝ }
-    ensures { λ s. ⌜ Placed s × (s .lo ≡ r .mid + 1) × (s .hi ≡ r .hi) ⌝ }
-{
-    let lo = r.mid + 1;
-    Range {
-        lo: lo,
-        hi: r.hi,
-        mid: lo + smaller(r.reach - 1, (r.hi - lo) / 2),
-        reach: wider(r.reach),
-    }
-}
-
-// The half of the range that holds the bits of entry `rank`, where `count` values are at most mid.
-fn halved(r: Range, rank: u64, count: u32) -> Range
-    requires { ⌜ Placed r × (r .lo < r .hi) ⌝ }
-    ensures { λ s. ⌜ Placed s × Halved r rank count s ⌝ }
+// The part of the range, up to mid or above it, that holds the bits of entry `rank`, where `count` values are at most mid.
+fn halved(r: Range, mid: u32, rank: u64, count: u32) -> Range
+    requires { ⌜ (r .lo ≤ mid) × (mid < r .hi) ⌝ }
+    ensures { λ s. ⌜ Halved r mid rank count s ⌝ }
 {
     if rank < count as u64 {
-        lower(r)
+        Range { lo: r.lo, hi: mid }
     } else {
-        upper(r)
-    }
-}
-
-// The same range, the next count as near to `at` as it allows.
-fn aimed(r: Range, at: u32) -> Range
-    requires { ⌜ Placed r ⌝ }
-    ensures { λ s. ⌜ Placed s × (s .lo ≡ r .lo) × (s .hi ≡ r .hi) ⌝ }
-{
-    let mid = if at < r.lo {
-        r.lo
-    } else {
-        smaller(at, r.hi - smaller(1, r.hi - r.lo))
-    };
-    Range {
-        lo: r.lo,
-        hi: r.hi,
-        mid: mid,
-        reach: r.reach,
-    }
-}
-
-// All bits that the threshold may have.
-fn everywhere(at: u32, reach: u32) -> Range
-    requires { ⌜ (1 ≤ reach) × (reach ≤ 2 ^ 26) ⌝ }
-    ensures { λ r. ⌜ Placed r × (r .lo ≡ 0x3C23D70A) × (r .hi ≡ 0x3F800000) ⌝ }
-{
-    aimed(
         Range {
-            lo: LEAST_BITS,
-            hi: MOST_BITS,
-            mid: LEAST_BITS,
-            reach: reach,
-        },
-        at,
-    )
+            lo: mid + 1,
+            hi: r.hi,
+        }
+    }
 }
 
-// The bits of the clipped entry `rank` of a part of the sample, found by counting: no sort, no copy.
-fn ranked_bits(
-    every: usize,
-    parts: usize,
-    row: usize,
-    column: usize,
-    g: &[f32],
-    rank: u64,
-    from: Range,
-) -> u32
-    requires { ⌜ (1 ≤ every) × (1 ≤ parts) × (row ≤ 4094) × (column ≤ 4094) × (length (now g) ≡ row * column) ⌝ }
+// How many values, of the sample and of the part that guesses are made from, are below a range and up to its end, and how many guesses
+// may follow. Only the time depends on them.
+struct Seen {
+    below: u32,
+    upto: u32,
+    part_below: u32,
+    part_upto: u32,
+    guesses: u32,
+}
+
+// The same, of the range that `halved` takes.
+fn seen_at(s: Seen, rank: u64, of_all: u32, of_part: u32) -> Seen {
+    let left = s.guesses - smaller(1, s.guesses);
+    if rank < of_all as u64 {
+        Seen {
+            below: s.below,
+            upto: of_all,
+            part_below: s.part_below,
+            part_upto: of_part,
+            guesses: left,
+        }
+    } else {
+        Seen {
+            below: of_all,
+            upto: s.upto,
+            part_below: of_part,
+            part_upto: s.part_upto,
+            guesses: left,
+        }
+    }
+}
+
+// a - b, or 0 where that is below 0.
+fn beyond(a: u32, b: u32) -> u32
+    ensures { λ r. ⌜ (r ≡ a - b) × (r ≤ 0xFFFFFFFF) ⌝ }
+{
+    if a < b { 0 } else { a - b }
+}
+
+// The rank in the part that lies between those of the range's ends as `rank` does in the sample.
+fn rank_in_part(s: Seen, rank: u32) -> u64 {
+    let wide = beyond(s.upto, s.below) as u64;
+    let share = beyond(rank, s.below) as u64 * beyond(s.part_upto, s.part_below) as u64;
+    if wide == 0 {
+        0
+    } else {
+        s.part_below as u64 + share / wide
+    }
+}
+
+// Where entry `rank` of the part lies, as near as the range allows. Only the time depends on it.
+fn guess(row: usize, column: usize, g: &[f32], rank: u64, from: Range) -> u32
+    requires { ⌜ (row ≤ 4094) × (column ≤ 4094) × (length (now g) ≡ row * column) × (from .lo ≤ from .hi) × (from .hi ≤ 0x3F800000) ⌝ }
     requires { ⌜ AllPlain (now g) ⌝ }
-    requires { ⌜ Placed from × Holds (part every parts row column (now g)) rank from ⌝ }
-    ensures { λ r. ⌜ (rank < length (part every parts row column (now (g .entry))) → r ≡ sought (part every parts row column (now (g .entry))) rank) ⌝ }
-    ensures { λ r. ⌜ r ≤ 0x3F800000 ⌝ }
+    ensures { λ r. ⌜ (from .lo ≤ r) × (r ≤ from .hi) ⌝ }
 {
     let mut range = from;
     while range.lo < range.hi {
-        let count = count_part(every, parts, row, column, g, range.mid);
-        range = halved(range, rank, count);
+        let mid = half(range);
+        let count = count_part(EVERY, PARTS, row, column, g, mid);
+        range = halved(range, mid, rank, count);
     }
     range.lo
 }
 
-// The rank in a part of the sample that comes to `rank` in the sample, from how many of each are at most the same value.
-fn moved(rank: u64, of_part: u32, of_all: u32) -> u64
-    requires { ⌜ rank ≤ 2 ^ 32 ⌝ }
+// Where to count next: at a guess while there are some left and the part has values in the range, else in the middle.
+fn place(row: usize, column: usize, g: &[f32], rank: u32, range: Range, seen: Seen) -> u32
+    requires { ⌜ (row ≤ 4094) × (column ≤ 4094) × (length (now g) ≡ row * column) × (range .lo < range .hi) × (range .hi ≤ 0x3F800000) ⌝ }
+    requires { ⌜ AllPlain (now g) ⌝ }
+    ensures { λ mid. ⌜ (range .lo ≤ mid) × (mid < range .hi) ⌝ }
 {
-    let sum = SHARE * of_part as u64 + rank;
-    if sum < of_all as u64 {
-        0
+    if 0 < seen.guesses && seen.part_below < seen.part_upto {
+        let at = guess(row, column, g, rank_in_part(seen, rank), range);
+        smaller(at, range.hi - 1)
     } else {
-        (sum - of_all as u64) / SHARE
+        half(range)
     }
 }
 
-// The bits of entry `rank` of the part that guesses are made from. Only the time depends on them.
-fn guess(row: usize, column: usize, g: &[f32], rank: u64, from: Range) -> u32
-    requires { ⌜ (row ≤ 4094) × (column ≤ 4094) × (length (now g) ≡ row * column) ⌝ }
-    requires { ⌜ AllPlain (now g) ⌝ }
-    requires { ⌜ Placed from × (from .lo ≡ 0x3C23D70A) × (from .hi ≡ 0x3F800000) ⌝ }
-    ensures { λ r. ⌜ r ≤ 0x3F800000 ⌝ }
+// How many values a part of the sample has.
+fn size_of_part(every: usize, parts: usize, row: usize, column: usize) -> u32
+    requires { ⌜ (1 ≤ every) × (1 ≤ parts) × (row ≤ 4094) × (column ≤ 4094) ⌝ }
 {
-    ranked_bits(EVERY, PARTS, row, column, g, rank, from)
+    let size = middle(row) / every * (middle(column) / parts);
+    size as u32
 }
 
-// The bits of the threshold. A guess from a part is counted in all of the sample, which on a clean screen ends the search; the count also
-// tells by how much the rank in the part is to be moved for the second guess.
-fn threshold_bits(row: usize, column: usize, g: &[f32], rank: u64) -> u32
-    requires { ⌜ (row ≤ 4094) × (column ≤ 4094) × (length (now g) ≡ row * column) × (rank ≤ 2 ^ 32) ⌝ }
+// What is known of all bits that the threshold may have: that they are between none and all of the values.
+fn seen_first(row: usize, column: usize) -> Seen
+    requires { ⌜ (row ≤ 4094) × (column ≤ 4094) ⌝ }
+{
+    Seen {
+        below: 0,
+        upto: size_of_part(1, 1, row, column),
+        part_below: 0,
+        part_upto: size_of_part(EVERY, PARTS, row, column),
+        guesses: GUESSES,
+    }
+}
+
+// The bits of the clipped entry `rank` of the sample, found by counting: no sort, no copy.
+fn threshold_bits(row: usize, column: usize, g: &[f32], rank: u32) -> u32
+    requires { ⌜ (row ≤ 4094) × (column ≤ 4094) × (length (now g) ≡ row * column) ⌝ }
     requires { ⌜ AllPlain (now g) ⌝ }
     ensures { λ r. ⌜ (rank < length (sample row column (now (g .entry))) → r ≡ sought (sample row column (now (g .entry))) rank) ⌝ }
     ensures { λ r. ⌜ r ≤ 0x3F800000 ⌝ }
 {
-    let first = everywhere(
-        guess(row, column, g, rank / SHARE, everywhere(LEAST_BITS, FAR)),
-        1,
-    );
-    let of_all = count_part(1, 1, row, column, g, first.mid);
-    let of_part = count_part(EVERY, PARTS, row, column, g, first.mid);
-    let second = guess(row, column, g, moved(rank, of_part, of_all), first);
-    let range = aimed(halved(first, rank, of_all), second);
-    ranked_bits(1, 1, row, column, g, rank, range)
+    let mut seen = seen_first(row, column);
+    let mut range = Range {
+        lo: LEAST_BITS,
+        hi: MOST_BITS,
+    };
+    while range.lo < range.hi {
+        let mid = place(row, column, g, rank, range, seen);
+        let of_all = count_part(1, 1, row, column, g, mid);
+        let of_part = count_part(EVERY, PARTS, row, column, g, mid);
+        seen = seen_at(seen, rank as u64, of_all, of_part);
+        range = halved(range, mid, rank as u64, of_all);
+    }
+    range.lo
 }
 
 fn threshold_of(row: usize, column: usize, g: &[f32]) -> f32
@@ -246,7 +240,7 @@ fn threshold_of(row: usize, column: usize, g: &[f32]) -> f32
     ensures { λ r. ⌜ r ≡ threshold row column (now (g .entry)) ⌝ }
 {
     let rank = rank_of(middle(row) * middle(column));
-    f32::from_bits(threshold_bits(row, column, g, rank))
+    f32::from_bits(threshold_bits(row, column, g, rank as u32))
 }
 
 // A byte for each gradient, 1 where it is at least the threshold.

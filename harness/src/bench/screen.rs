@@ -50,6 +50,16 @@ impl Kind {
     }
 }
 
+/// A board of any pitches, place and look, each byte moved by at most the second number.
+pub fn any_noisy(seed: u64, height: usize, width: usize) -> (Drawn, i32, Vec<u8>) {
+    let rng = &mut Rng::new(seed);
+    let drawn = Drawn::filling(rng, height, width, 9, 60);
+    let by = rng.between(2, 8) as i32;
+    let mut pixels = drawn.screen(height, width);
+    screens::noisy(rng, &mut pixels, by);
+    (drawn, by, pixels)
+}
+
 /// Cells of 30 pixels over most of the screen; lines lie a third of the way down and across, where the
 /// scan starts.
 fn board(height: usize, width: usize) -> Vec<u8> {

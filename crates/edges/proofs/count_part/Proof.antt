@@ -47,18 +47,18 @@ loop-holds c =
 inside : (c : tie.In-loop Inv-loop μ-loop)
     → let a = c .before .before .before .before .before .args in
     let i = c .before .loop .i in
-    a .every * i + 3 * i % a .every < 3 * a .row / 4 - a .row / 4
+    a .every * i + i * i / 7 % a .every < 3 * a .row / 4 - a .row / 4
 inside c =
     let s = c .before .before .before .before .before in
     let a = s .args in
-    within (a .every) (a .row) (c .before .loop .i) (3 * c .before .loop .i) (s .pre .0 .0) (omega (arith, c .before .loop .inv .1))
+    within (a .every) (a .row) (c .before .loop .i) (c .before .loop .i * c .before .loop .i / 7) (s .pre .0 .0) (omega (arith, c .before .loop .inv .1))
 
 -- and lies among the gradients
 inner : (c : tie.In-loop Inv-loop μ-loop)
     → let a = c .before .before .before .before .before .args in
     let n = c .before .before .middle2 .result / a .parts in
     let i = c .before .loop .i in
-    (a .row / 4 + (a .every * i + 3 * i % a .every)) * a .column + (a .column / 4 + 5 * i % a .parts * n) + n ≤ a .row * a .column
+    (a .row / 4 + (a .every * i + i * i / 7 % a .every)) * a .column + (a .column / 4 + 3 * i % a .parts * n) + n ≤ a .row * a .column
 inner c =
     let s = c .before .before .before .before .before in
     let a = s .args in
@@ -69,7 +69,9 @@ mul-from : tie.Need-mul-from Inv-loop μ-loop
 mul-from c = omega (arith, inside c)
 
 mul-from-2 : tie.Need-mul-from-2 Inv-loop μ-loop
-mul-from-2 c = search needs
+mul-from-2 c =
+    let i : c .before .loop .i ≤ 4096 = omega (arith, c .before .loop .inv .3) in
+    omega (arith, mul-le-mul i i)
 
 rem-from : tie.Need-rem-from Inv-loop μ-loop
 rem-from c = search needs

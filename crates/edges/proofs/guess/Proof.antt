@@ -1,26 +1,58 @@
--- `edges::guess` meets its contract: all bits that the threshold may have hold those of the part.
-
+-- `edges::guess` meets its contract. The invariant: the range lies within the one that was handed in. It falls.
+use Prim.Native.Nat.{_-_, _≤_, _<_}
 use native.Mathlib.Omega.{arith}
-use denote.Ref.{now}
-use Rattle.edges.specs.Search.{part}
-use Rattle.edges.proofs.Sample.{part-plain}
-use Rattle.edges.proofs.Threshold.{holds-all}
+use Rattle.edges.proofs.Threshold.{half-inside}
 use borrow.Author.Needs.{needs}
 use Rattle.edges.proofs.guess.Statement.{statement}
 use Rattle.edges.proofs.guess.Tie as tie
 
-ranked-bits-requires : tie.Need-ranked-bits-requires
-ranked-bits-requires c κs =
-    let s = c .before in
-    let a = s .args in
-    let p = s .pre in
-    let plain = part-plain 5 3 (a .row) (a .column) (now (a .g)) (omega arith) (omega arith) (p .0 .2) (c .shared-slice-known .given) (p .1 .0) in (
-      (omega arith, omega arith, p .0 .0, p .0 .1, p .0 .2),
-      (p .1 .0, (p .1 .1 .0, holds-all (part 5 3 (a .row) (a .column) (now (a .g))) (a .rank) (a .from) plain (p .1 .1 .1) (p .1 .1 .2))),
-    )
+abbrev Inv-loop : tie.InvT-loop
+Inv-loop row column g rank range₀ range = (range₀ .lo ≤ range .lo) × (range .lo ≤ range .hi) × (range .hi ≤ range₀ .hi)
 
-returns : tie.Need-returns
+abbrev μ-loop : tie.MeasureT-loop
+μ-loop row column g rank range₀ range = range .hi - range .lo
+
+loop-holds : tie.Need-loop-holds Inv-loop μ-loop
+loop-holds c = search needs
+
+half-requires : tie.Need-half-requires Inv-loop μ-loop
+half-requires c κs = search needs
+
+count-part-requires : tie.Need-count-part-requires Inv-loop μ-loop
+count-part-requires c κs = search needs
+
+halved-requires : tie.Need-halved-requires Inv-loop μ-loop
+halved-requires c κs = search needs
+
+-- the range after a turn
+next : (c : tie.After-halved Inv-loop μ-loop)
+    → let r = c .before .before .before .before .before .loop .range in
+    let s = c .halved .result in
+    (r .lo ≤ s .lo) × (s .lo ≤ s .hi) × (s .hi ≤ r .hi) × (s .hi - s .lo < r .hi - r .lo)
+next c = let m = c .before .before .half .ensures in half-inside (m .0) (m .1) (c .halved .ensures)
+
+loop-less : tie.Need-loop-less Inv-loop μ-loop
+loop-less c = next c .3
+
+loop-again : tie.Need-loop-again Inv-loop μ-loop
+loop-again c =
+    let i = c .before .before .before .before .before .loop .inv in
+    let n = next c in
+    (omega (arith, i .0, n .0), n .1, omega (arith, i .2, n .2))
+
+returns : tie.Need-returns Inv-loop μ-loop
 returns c = search needs
 
 pub guess-spec : {M : Type 1} → statement M
-guess-spec = tie.close (tie.spec ranked-bits-requires returns)
+guess-spec =
+    tie.close
+    (tie.spec
+    Inv-loop
+    μ-loop
+    loop-holds
+    half-requires
+    count-part-requires
+    halved-requires
+    loop-less
+    loop-again
+    returns)

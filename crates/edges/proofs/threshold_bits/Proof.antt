@@ -1,72 +1,89 @@
--- `edges::threshold_bits` meets its contract: one count halves all bits that the threshold may have, and the rest is `ranked_bits`.
-
+-- `edges::threshold_bits` meets its contract. The invariant: the range holds the bits sought. It falls, wherever the count is made.
+use Prim.Native.Nat.{_-_, _<_}
+use mathlib.Core.Path.{_≡_, refl}
 use native.Mathlib.Omega.{arith}
 use denote.Ref.{now}
-use Rattle.edges.specs.Search.{part}
-use Rattle.edges.proofs.Sample.{part-plain, part-all}
-use Rattle.edges.proofs.Threshold.{holds-all, holds-same, holds-half}
+use lib.ListN.{length}
+use Rattle.binary32.proofs.Plain.{Plain}
+use Rattle.edges.specs.Search.{part, sought, Holds}
+use Rattle.edges.proofs.Sample.{AllAre, part-plain, part-all}
+use Rattle.edges.proofs.Threshold.{holds-all, holds-half, half-inside}
 use borrow.Author.Needs.{needs}
 use Rattle.edges.proofs.threshold_bits.Statement.{statement}
 use Rattle.edges.proofs.threshold_bits.Tie as tie
 
-everywhere-requires : tie.Need-everywhere-requires
-everywhere-requires c κs = search needs
+abbrev Inv-loop : tie.InvT-loop
+Inv-loop row column g rank seen₀ range₀ seen range = Holds (part 1 1 row column g) rank range
 
-guess-requires : tie.Need-guess-requires
-guess-requires c κs = search needs
+abbrev μ-loop : tie.MeasureT-loop
+μ-loop row column g rank seen₀ range₀ seen range = range .hi - range .lo
 
-everywhere-requires-2 : tie.Need-everywhere-requires-2
-everywhere-requires-2 c κs = search needs
+seen-first-requires : tie.Need-seen-first-requires Inv-loop μ-loop
+seen-first-requires c κs = search needs
 
-count-part-requires : tie.Need-count-part-requires
+-- the values of the sample are plain
+plain : (c : tie.After-seen-first Inv-loop μ-loop)
+    → let a = c .before .before .args in
+    AllAre Plain (part 1 1 (a .row) (a .column) (now (a .g)))
+plain c =
+    let s = c .before .before in
+    let a = s .args in
+    part-plain 1 1 (a .row) (a .column) (now (a .g)) (omega arith) (omega arith) (s .pre .0 .2) (c .before .shared-slice-known .given) (s .pre .1)
+
+loop-holds : tie.Need-loop-holds Inv-loop μ-loop
+loop-holds c =
+    let a = c .before .before .args in
+    holds-all (part 1 1 (a .row) (a .column) (now (a .g))) (a .rank) _ (plain c) refl refl
+
+place-requires : tie.Need-place-requires Inv-loop μ-loop
+place-requires c κs = search needs
+
+count-part-requires : tie.Need-count-part-requires Inv-loop μ-loop
 count-part-requires c κs = search needs
 
-count-part-requires-2 : tie.Need-count-part-requires-2
+count-part-requires-2 : tie.Need-count-part-requires-2 Inv-loop μ-loop
 count-part-requires-2 c κs = search needs
 
-moved-requires : tie.Need-moved-requires
-moved-requires c κs = search needs
+seen-at-requires : tie.Need-seen-at-requires Inv-loop μ-loop
+seen-at-requires c κs = search needs
 
-guess-requires-2 : tie.Need-guess-requires-2
-guess-requires-2 c κs = search needs
-
-halved-requires : tie.Need-halved-requires
+halved-requires : tie.Need-halved-requires Inv-loop μ-loop
 halved-requires c κs = search needs
 
-aimed-requires : tie.Need-aimed-requires
-aimed-requires c κs = search needs
+loop-less : tie.Need-loop-less Inv-loop μ-loop
+loop-less c =
+    let m = c .before .before .before .before .place .ensures in
+    half-inside (m .0) (m .1) (c .halved .ensures) .3
 
-ranked-bits-requires : tie.Need-ranked-bits-requires
-ranked-bits-requires c κs =
-    let first = c .before .before .before .before .before .before in
-    let s = first .before .before .before .before in
-    let a = s .args in
-    let p = s .pre in
-    let l = part 1 1 (a .row) (a .column) (now (a .g)) in
-    let e = first .everywhere2 .ensures in
-    let plain = part-plain 1 1 (a .row) (a .column) (now (a .g)) (omega arith) (omega arith) (p .0 .2) (first .before .before .before .shared-slice-known .given) (p .1) in
-    let all = holds-all l (a .rank) (first .everywhere2 .result) plain (e .1) (e .2) in
-    let half = holds-half plain all (e .0) (omega (arith, e .1, e .2)) (c .before .before .before .before .before .count-part .ensures) (c .before .halved .ensures .1) in
-    let aim = c .aimed .ensures in
-    ((omega arith, omega arith, p .0 .0, p .0 .1, p .0 .2), (p .1, (aim .0, holds-same (half .0) (aim .1) (aim .2))))
+loop-again : tie.Need-loop-again Inv-loop μ-loop
+loop-again c =
+    let counted = c .before .before .before in
+    let placed = counted .before in
+    let at = placed .before .before .before in
+    holds-half (plain (at .before)) (at .loop .inv) (placed .place .ensures .0) (placed .place .ensures .1) (counted .count-part .ensures) (c .halved .ensures)
 
-returns : tie.Need-returns
+returns : tie.Need-returns Inv-loop μ-loop
 returns c =
-    let a = c .before .before .before .before .before .before .before .before .before .before .before .args in
-    (rw (part-all (a .row) (a .column) (now (a .g))) at (c .ranked-bits .ensures .0), c .ranked-bits .ensures .1)
+    let at = c .before .before in
+    let a = at .before .before .before .args in
+    let i = at .loop .inv in
+    let l = part 1 1 (a .row) (a .column) (now (a .g)) in
+    let found : (a .rank < length l → at .loop .range .lo ≡ sought l (a .rank)) = λ h. omega (arith, i .low h, i .high h, c .if1 .left) in
+    (rw (part-all (a .row) (a .column) (now (a .g))) at found, omega (arith, i .some, i .ceiling))
 
 pub threshold-bits-spec : {M : Type 1} → statement M
 threshold-bits-spec =
     tie.close
     (tie.spec
-    everywhere-requires
-    guess-requires
-    everywhere-requires-2
+    Inv-loop
+    μ-loop
+    seen-first-requires
+    loop-holds
+    place-requires
     count-part-requires
     count-part-requires-2
-    moved-requires
-    guess-requires-2
+    seen-at-requires
     halved-requires
-    aimed-requires
-    ranked-bits-requires
+    loop-less
+    loop-again
     returns)

@@ -41,11 +41,14 @@ rank-of-requires c κs = size c .1
 rank : (c : tie.After-rank-of) → c .rank-of .result < c .before .before .middle .result * c .before .middle2 .result
 rank c = let z = size (c .before) in rw (c .rank-of .ensures) (rank-below _ (z .0) (z .1))
 
+cast-threshold-bits : tie.Need-cast-threshold-bits
+cast-threshold-bits c = omega (arith, rank c, size (c .before) .1)
+
 threshold-bits-requires : tie.Need-threshold-bits-requires
 threshold-bits-requires c κs =
     let s = c .before .before .before .before in
     let p = s .pre .0 in
-    ((p .1, p .3, p .4, omega (arith, rank c, size (c .before) .1)), s .pre .1)
+    ((p .1, p .3, p .4), s .pre .1)
 
 float-from-bits-result : tie.Need-float-from-bits-result
 float-from-bits-result c = rw (bits-number (c .threshold-bits .result) (omega (arith, c .threshold-bits .ensures .1))) tt
@@ -64,4 +67,4 @@ returns c =
 
 pub threshold-of-spec : {M : Type 1} → statement M
 threshold-of-spec =
-    tie.close (tie.spec middle-requires middle-requires-2 mul-rank-of rank-of-requires threshold-bits-requires float-from-bits-result returns)
+    tie.close (tie.spec middle-requires middle-requires-2 mul-rank-of rank-of-requires cast-threshold-bits threshold-bits-requires float-from-bits-result returns)
