@@ -21,7 +21,7 @@ const EVERY: usize = 6;
 
 const PARTS: usize = 11;
 
-// After so many guesses that were counted, the range is halved.
+// So many guesses are made at most.
 const GUESSES: u32 = 8;
 
 // The place in the sorted sample of m.
@@ -112,43 +112,55 @@ fn halved(r: Range, mid: u32, rank: u64, count: u32) -> Range
     }
 }
 
-// How many values, of the sample and of the part that guesses are made from, are below a range and up to its end, and how many guesses
-// may follow. Only the time depends on them.
+// a - b, or 0 where that is below 0.
+fn beyond(a: u32, b: u32) -> u32
+    ensures { λ r. ⌜ (r ≡ a - b) × (r ≤ 0xFFFFFFFF) ⌝ }
+{
+    if a < b { 0 } else { a - b }
+}
+
+fn either(first: bool, a: u32, b: u32) -> u32 {
+    if first { a } else { b }
+}
+
+// How many values, of the sample and of the part that guesses are made from, are below a range and up to its end; how many guesses may
+// follow; and how far from which end to count where there is none. Only the time depends on them.
 struct Seen {
     below: u32,
     upto: u32,
     part_below: u32,
     part_upto: u32,
     guesses: u32,
+    reach: u32,
+    low: bool,
+}
+
+// While guesses are left and the part has values in the range.
+fn guessing(s: Seen) -> bool {
+    0 < s.guesses && s.part_below < s.part_upto
+}
+
+// The next reach: it grows until only the halving is left.
+fn wider(reach: u32) -> u32 {
+    if reach < 0x1000000 {
+        4 * reach + 3
+    } else {
+        reach
+    }
 }
 
 // The same, of the range that `halved` takes.
 fn seen_at(s: Seen, rank: u64, of_all: u32, of_part: u32) -> Seen {
-    let left = s.guesses - smaller(1, s.guesses);
-    if rank < of_all as u64 {
-        Seen {
-            below: s.below,
-            upto: of_all,
-            part_below: s.part_below,
-            part_upto: of_part,
-            guesses: left,
-        }
-    } else {
-        Seen {
-            below: of_all,
-            upto: s.upto,
-            part_below: of_part,
-            part_upto: s.part_upto,
-            guesses: left,
-        }
+    let low = rank < of_all as u64;
+    Seen {
+        below: either(low, s.below, of_all),
+        upto: either(low, of_all, s.upto),
+        part_below: either(low, s.part_below, of_part),
+        part_upto: either(low, of_part, s.part_upto),
+        guesses: beyond(s.guesses, 1),
+        reach: either(guessing(s), s.reach, wider(s.reach)),
+        low: low,
     }
-}
-
-// a - b, or 0 where that is below 0.
-fn beyond(a: u32, b: u32) -> u32
-    ensures { λ r. ⌜ (r ≡ a - b) × (r ≤ 0xFFFFFFFF) ⌝ }
-{
-    if a < b { 0 } else { a - b }
 }
 
 // The rank in the part that lies between those of the range's ends as `rank` does in the sample.
@@ -177,17 +189,31 @@ fn guess(row: usize, column: usize, g: &[f32], rank: u64, from: Range) -> u32
     range.lo
 }
 
-// Where to count next: at a guess while there are some left and the part has values in the range, else in the middle.
+// Near one end of the range, then the other, where values often lie close together; in the middle once that is nearer.
+fn near_end(r: Range, reach: u32, low: bool) -> u32
+    requires { ⌜ r .lo < r .hi ⌝ }
+    ensures { λ mid. ⌜ (r .lo ≤ mid) × (mid < r .hi) ⌝ }
+{
+    if (r.hi - r.lo) / 2 <= reach {
+        half(r)
+    } else if low {
+        r.lo + reach
+    } else {
+        r.hi - 1 - reach
+    }
+}
+
+// Where to count next.
 fn place(row: usize, column: usize, g: &[f32], rank: u32, range: Range, seen: Seen) -> u32
     requires { ⌜ (row ≤ 4094) × (column ≤ 4094) × (length (now g) ≡ row * column) × (range .lo < range .hi) × (range .hi ≤ 0x3F800000) ⌝ }
     requires { ⌜ AllPlain (now g) ⌝ }
     ensures { λ mid. ⌜ (range .lo ≤ mid) × (mid < range .hi) ⌝ }
 {
-    if 0 < seen.guesses && seen.part_below < seen.part_upto {
+    if guessing(seen) {
         let at = guess(row, column, g, rank_in_part(seen, rank), range);
         smaller(at, range.hi - 1)
     } else {
-        half(range)
+        near_end(range, seen.reach, seen.low)
     }
 }
 
@@ -209,6 +235,8 @@ fn seen_first(row: usize, column: usize) -> Seen
         part_below: 0,
         part_upto: size_of_part(EVERY, PARTS, row, column),
         guesses: GUESSES,
+        reach: 0,
+        low: false,
     }
 }
 
