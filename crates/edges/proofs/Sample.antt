@@ -12,12 +12,12 @@ use lib.Ieee.Exact.{HasValue}
 use lib.ListN.{length, getD}
 use Rattle.lists.specs.Tab.{tab, grid}
 use Rattle.lists.specs.Picture.{bit}
+use Rattle.lists.proofs.Count.{count-append, count-le}
 use Rattle.lists.proofs.Fill.{length-tabFrom, getD-tab, tab-same}
 use Rattle.lists.proofs.Grid.{cell, tab-more, grid-more}
 use Rattle.binary32.proofs.Plain.{Plain, bits-plain, at-most-bits}
 use Rattle.binary32.proofs.Share.{share-below}
-use Rattle.rank.specs.Rank.{countAtMost}
-use Rattle.rank.proofs.Counts.{count-append, count-le}
+use Rattle.rank.specs.Rank.{atMost, countAtMost}
 use Rattle.edges.specs.Edges.{sample, rankOf, AllPlain}
 use Rattle.edges.specs.Search.{part}
 
@@ -126,17 +126,17 @@ pub counted-none : {b : ℕ} {f : ℕ → Float} → Counted b f 0 0
 counted-none = record { is = refl; few = omega arith }
 
 counted : {b : ℕ} {f : ℕ → Float} {k count : ℕ} → count ≡ countAtMost (toBits binary32) b (tab k f) → Counted b f k count
-counted {b} {f} {k} e = record { is = e; few = omega (arith, count-le (toBits binary32) b (tab k f), length-tabFrom 0 k f) }
+counted {b} {f} {k} e = record { is = e; few = omega (arith, count-le (atMost (toBits binary32) b) (tab k f), length-tabFrom 0 k f) }
 
 -- one value more
 pub counted-more : {b : ℕ} {f : ℕ → Float} {k count n : ℕ} → Counted b f k count → b ≤ 0x7F800000 → Plain (f k)
     → n ≡ bit (le (f k) (ofBits binary32 b)) → Counted b f (k + 1) (count + n)
 counted-more {b} {f} {k} {n = n} c h p e =
     let one : n ≡ cond (leb (toBits binary32 (f k)) b) 1 0 = rw (sym (at-most-bits b p h)) e in
-    counted (rw (tab-more k f) (omega (arith, c .is, count-append (toBits binary32) b (tab k f) (f k ∷ []))))
+    counted (rw (tab-more k f) (omega (arith, c .is, count-append (atMost (toBits binary32) b) (tab k f) (f k ∷ []))))
 
 -- one row more
 pub counted-row : {b count n : ℕ} (f : ℕ → ℕ → Float) (columns i : ℕ) → Counted b (cell f columns) (i * columns) count
     → n ≡ countAtMost (toBits binary32) b (tab columns (f i)) → Counted b (cell f columns) ((i + 1) * columns) (count + n)
 counted-row {b} f columns i c e =
-    counted (rw (grid-more i columns f) (omega (arith, c .is, count-append (toBits binary32) b (grid i columns f) (tab columns (f i)))))
+    counted (rw (grid-more i columns f) (omega (arith, c .is, count-append (atMost (toBits binary32) b) (grid i columns f) (tab columns (f i)))))

@@ -1,14 +1,12 @@
--- The largest entry of a list and the count of its equals as a loop takes them, and the neighbours of a place. Assumes nothing.
+-- The largest entry of a list as a loop takes it, and the neighbours of a place. Assumes nothing.
 use Prim.Native.Nat.{ℕ, zero, suc, _+_, _-_, _≤_, _<_, max}
 use mathlib.Core.Path.{_≡_, sym, _∙_}
-use mathlib.Core.Bool.{Bool, true, false, cond}
 use mathlib.Core.List.{List, [], _∷_}
 use native.Mathlib.Numerals.{add-one, add-two, add-three}
 use native.Mathlib.Omega.{arith}
-use lib.Dec.{eqb}
 use lib.ListN.{length, getD, take, drop, length-drop, length-take}
 use lib.Seq.{drop-cons, drop-length, take-all}
-use Rattle.lines.specs.Lines.{largest, countEqual, before, behind}
+use Rattle.lines.specs.Lines.{largest, before, behind}
 
 pub max-next :
     (m : ℕ) {m' : ℕ} (l : List ℕ) (k : ℕ)
@@ -55,20 +53,6 @@ largest-four l k h =
     let c = drop-cons l (suc (suc k)) 0 (omega arith) in
     let d = drop-cons l (suc (suc (suc k))) 0 (omega arith) in
     rw (a, b, c, d, add-one k, add-two k, add-three k, max-zero)
-
-pub equal-next : (v : ℕ) (l : List ℕ) (k : ℕ) → k < length l → countEqual v (drop k l) ≡ countEqual v (getD l k 0 ∷ []) + countEqual v (drop (k + 1) l)
-equal-next v l k h = rw (drop-cons l k 0 h, add-one k) (omega arith)
-
-pub equal-none : (v : ℕ) (l : List ℕ) (k : ℕ) → k ≡ length l → countEqual v (drop k l) ≡ 0
-equal-none v l k e = rw (e, drop-length)
-
-pub equal-le : (v : ℕ) (l : List ℕ) → countEqual v l ≤ length l
-equal-le v [] = omega arith
-equal-le v (x ∷ l) = at (equal-le v l) (eqb x v)
-  where
-    at : countEqual v l ≤ length l → (t : Bool) → cond t 1 0 + countEqual v l ≤ suc (length l)
-    at ih true = omega arith
-    at ih false = omega arith
 
 -- what lies after place i is short enough to be taken whole
 pub behind-all : (l : List ℕ) (i : ℕ) → length l - (i + 1) < 7 → take (length l - (i + 1)) (drop (i + 1) l) ≡ behind 7 l i

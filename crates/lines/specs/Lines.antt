@@ -7,6 +7,7 @@ use lib.Dec.{leb, ltb, eqb}
 use lib.IntN.{pos}
 use lib.Ieee.{Float, binary32, le, add, mul, div, ofInt, ofBits}
 use lib.ListN.{length, getD, take, drop}
+use Rattle.lists.specs.Count.{count}
 use Rattle.lists.specs.Tab.{tab}
 use Rattle.binary32.specs.Binary32.{trunc}
 use Rattle.rank.specs.Rank.{self, entry}
@@ -51,8 +52,7 @@ unfoldable pub smooth : List ℕ → List ℕ
 smooth s = tab (length s) (smoothed s)
 
 abbrev pub countEqual : ℕ → List ℕ → ℕ
-countEqual v [] = 0
-countEqual v (x ∷ l) = cond (eqb x v) 1 0 + countEqual v l
+countEqual v l = count (λ x. eqb x v) l
 
 -- of the entries before v and those after it none is larger, and the equals before are those after, or one less
 abbrev pub standsOut : ℕ → List ℕ → List ℕ → Bool

@@ -1,3 +1,4 @@
+pub mod Count
 pub mod Fill
 pub mod Picture
 pub mod Tab

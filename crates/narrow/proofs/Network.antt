@@ -13,8 +13,8 @@ use lib.Ieee.{Float, nan, binary32, fits, ofBits, toBits}
 use lib.Ieee.Bits.{ofBits-toBits}
 use lib.ListN.{length}
 use Rattle.lists.specs.Tab.{grid}
-use Rattle.rank.specs.Rank.{countAtMost}
-use Rattle.rank.proofs.Counts.{count-le}
+use Rattle.rank.specs.Rank.{atMost, countAtMost}
+use Rattle.lists.proofs.Count.{count-le}
 use Rattle.rank.proofs.Entry.{entry-key, entry-leb}
 use Rattle.rank.proofs.Members.{Each, entry-each}
 use Rattle.board.proofs.Sides.{both}
@@ -194,4 +194,4 @@ module _ (x : ℕ → ℕ → Float) where
       (omega arith)
       (λ v.
       simp (three-leb 0 (omega arith), three-leb 1 (omega arith), three-leb 2 (omega arith))
-      (nine-ways (many v 0) (many v 1) (many v 2) (count-le key v (three 0)) (count-le key v (three 1)) (count-le key v (three 2)) ∙ ap (ltb 4) (total v)))
+      (nine-ways (many v 0) (many v 1) (many v 2) (count-le (atMost key v) (three 0)) (count-le (atMost key v) (three 1)) (count-le (atMost key v) (three 2)) ∙ ap (ltb 4) (total v)))

@@ -2,22 +2,16 @@
 use Prim.Native.Nat.{ℕ, zero, suc, _+_, _-_, _*_, _<_, _≤_}
 use mathlib.Core.Path.{_≡_, refl}
 use mathlib.Core.Bool.{Bool, true, false, _&&_}
-use mathlib.Core.List.{List, [], _∷_}
+use mathlib.Core.List.{List}
 use native.Mathlib.Nat.{not-suc-le-zero, le-of-suc-le-suc}
 use native.Mathlib.Numerals.{add-one}
 use native.Mathlib.Omega.{arith}
-use lib.ListN.{length, getD, drop}
+use lib.ListN.{length, getD, drop, drop-of-length-le}
 use lib.Seq.{drop-cons}
 use borrow.Author.Tests.{ltb-true, leb-true}
 use lib.Dec.{leb, ltb}
 use Rattle.screens.specs.declared.Input.the-variants.{Refused}
 use Rattle.screens.specs.Header.{isDigit, digitCount, digitsEnd, fourAtMost, valueAt, sized, numbersAt}
-
-pub drop-past : (k : ℕ) (l : List ℕ) → length l ≤ k → drop k l ≡ []
-drop-past zero [] h = refl
-drop-past zero (x ∷ l) h = absurd (not-suc-le-zero h)
-drop-past (suc k) [] h = refl
-drop-past (suc k) (x ∷ l) h = drop-past k l (le-of-suc-le-suc h)
 
 module _ (bytes : List ℕ) (k : ℕ) where
   -- a digit more
@@ -29,7 +23,7 @@ module _ (bytes : List ℕ) (k : ℕ) where
   digit-none l e = rw (drop-cons bytes k 0 l, e) (omega arith)
 
   pub digits-past : length bytes ≤ k → k + digitCount (drop k bytes) ≡ k
-  digits-past l = rw (drop-past k bytes l) (omega arith)
+  digits-past l = rw (drop-of-length-le bytes l) (omega arith)
 
 -- what n digits are worth at most, where a digit is any byte
 unfoldable pub worth : ℕ → ℕ

@@ -4,9 +4,10 @@ use mathlib.Core.Path.{_≡_}
 use mathlib.Core.List.{[], _∷_}
 use native.Mathlib.Omega.{arith}
 use denote.Ref.{now}
+use lib.Dec.{eqb}
 use lib.ListN.{length, getD, drop}
 use Rattle.lines.specs.Lines.{countEqual}
-use Rattle.lines.proofs.Windows.{equal-next, equal-none, equal-le}
+use Rattle.lists.proofs.Count.{count-next, count-none, count-le}
 use borrow.Author.Needs.{needs}
 use Rattle.lines.proofs.count_equal.Statement.{statement}
 use Rattle.lines.proofs.count_equal.Tie as tie
@@ -32,7 +33,7 @@ one-equal-requires c κs = search needs
 add-n : tie.Need-add-n Inv-loop μ-loop
 add-n c =
     let a = c .before .before .before .before .before .args in
-    omega (arith, c .one-equal .ensures, equal-le (a .v) (getD (now (a .s)) (c .before .before .before .loop .k) 0 ∷ []))
+    omega (arith, c .one-equal .ensures, count-le (λ x. eqb x (a .v)) (getD (now (a .s)) (c .before .before .before .loop .k) 0 ∷ []))
 
 add-k : tie.Need-add-k Inv-loop μ-loop
 add-k c = search needs
@@ -46,13 +47,13 @@ loop-again c =
     let k = c .before .before .before .loop .k in
     let i = c .before .before .before .loop .inv in
     let one = c .one-equal .ensures in
-    let next = equal-next (a .v) (now (a .s)) k (omega arith) in
-    (omega arith, omega (arith, one, equal-le (a .v) (getD (now (a .s)) k 0 ∷ [])), i .2, omega (arith, i .3, one, next))
+    let next = count-next (λ x. eqb x (a .v)) (now (a .s)) k 0 (omega arith) in
+    (omega arith, omega (arith, one, count-le (λ x. eqb x (a .v)) (getD (now (a .s)) k 0 ∷ [])), i .2, omega (arith, i .3, one, next))
 
 returns : tie.Need-returns Inv-loop μ-loop
 returns c =
     let a = c .before .before .before .args in
-    omega (arith, c .before .loop .inv .3, equal-none (a .v) (now (a .s)) (c .before .loop .k) (omega arith))
+    omega (arith, c .before .loop .inv .3, count-none (λ x. eqb x (a .v)) (now (a .s)) (c .before .loop .k) (omega arith))
 
 pub count-equal-spec : {M : Type 1} → statement M
 count-equal-spec =

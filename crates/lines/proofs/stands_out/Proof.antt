@@ -4,9 +4,9 @@ use mathlib.Core.Bool.{true}
 use native.Mathlib.Omega.{arith}
 use borrow.Author.Tests.{le-leb, lt-leb}
 use denote.Ref.{now}
-use lib.Dec.{leb}
+use lib.Dec.{leb, eqb}
 use Rattle.lines.specs.Lines.{largest}
-use Rattle.lines.proofs.Windows.{equal-le}
+use Rattle.lists.proofs.Count.{count-le}
 use borrow.Author.Needs.{needs}
 use Rattle.lines.proofs.stands_out.Statement.{statement}
 use Rattle.lines.proofs.stands_out.Tie as tie
@@ -36,8 +36,8 @@ count-equal-requires-2 c κs = search needs
 balanced-requires : tie.Need-balanced-requires
 balanced-requires c κs =
     let at = c .before .before .before .before .before .before .before .before in (
-      omega (arith, c .before .count-equal .ensures, equal-le (at .args .v) (now (at .args .a))),
-      omega (arith, c .count-equal2 .ensures, equal-le (at .args .v) (now (at .args .b))),
+      omega (arith, c .before .count-equal .ensures, count-le (λ x. eqb x (at .args .v)) (now (at .args .a))),
+      omega (arith, c .count-equal2 .ensures, count-le (λ x. eqb x (at .args .v)) (now (at .args .b))),
     )
 
 returns-3 : tie.Need-returns-3

@@ -5,8 +5,8 @@ use mathlib.Core.List.{[], _∷_}
 use native.Mathlib.Omega.{arith}
 use denote.Ref.{now}
 use lib.ListN.{length, getD, drop}
-use Rattle.rank.specs.Rank.{countAtMost, self}
-use Rattle.rank.proofs.Counts.{count-next, count-none, count-le}
+use Rattle.rank.specs.Rank.{atMost, countAtMost, self}
+use Rattle.lists.proofs.Count.{count-next, count-none, count-le}
 use borrow.Author.Needs.{needs}
 use Rattle.rank.proofs.count_at_most.Statement.{statement}
 use Rattle.rank.proofs.count_at_most.Tie as tie
@@ -30,7 +30,7 @@ one-at-most-requires : tie.Need-one-at-most-requires Inv-loop μ-loop
 one-at-most-requires c κs = search needs
 
 add-n : tie.Need-add-n Inv-loop μ-loop
-add-n c = omega (arith, c .one-at-most .ensures, count-le self (c .before .before .before .before .before .args .v) (getD (now (c .before .before .before .before .before .args .s)) (c .before .before .before .loop .k) 0 ∷ []))
+add-n c = omega (arith, c .one-at-most .ensures, count-le (atMost self (c .before .before .before .before .before .args .v)) (getD (now (c .before .before .before .before .before .args .s)) (c .before .before .before .loop .k) 0 ∷ []))
 
 add-k : tie.Need-add-k Inv-loop μ-loop
 add-k c = search needs
@@ -44,13 +44,13 @@ loop-again c =
     let k = c .before .before .before .loop .k in
     let i = c .before .before .before .loop .inv in
     let one = c .one-at-most .ensures in
-    let next = count-next self (a .v) (now (a .s)) k 0 (omega arith) in
-    (omega arith, omega (arith, one, count-le self (a .v) (getD (now (a .s)) k 0 ∷ [])), i .2, omega (arith, i .3, one, next))
+    let next = count-next (atMost self (a .v)) (now (a .s)) k 0 (omega arith) in
+    (omega arith, omega (arith, one, count-le (atMost self (a .v)) (getD (now (a .s)) k 0 ∷ [])), i .2, omega (arith, i .3, one, next))
 
 returns : tie.Need-returns Inv-loop μ-loop
 returns c =
     let a = c .before .before .before .args in
-    omega (arith, c .before .loop .inv .3, count-none self (a .v) (now (a .s)) (c .before .loop .k) (omega arith))
+    omega (arith, c .before .loop .inv .3, count-none (atMost self (a .v)) (now (a .s)) (c .before .loop .k) (omega arith))
 
 pub count-at-most-spec : {M : Type 1} → statement M
 count-at-most-spec =

@@ -1,8 +1,7 @@
 -- `screens::pixels` meets its contract.
 use Prim.Native.Nat.{_-_}
-use Rattle.screens.proofs.Numbers.{drop-past}
 use lib.Seq.{take-all}
-use lib.ListN.{length, drop, length-drop}
+use lib.ListN.{length, drop, length-drop, drop-of-length-le}
 use denote.Ref.{now}
 use native.Mathlib.Omega.{arith}
 use mathlib.Core.Path.{sym}
@@ -34,7 +33,7 @@ part-result-end-2 : tie.Need-part-result-end-2
 part-result-end-2 c = search needs
 
 returns-2 : tie.Need-returns-2
-returns-2 c = sym (drop-past (c .before .before .args .at) (now (c .before .before .args .bytes)) (c .before .if1 .left))
+returns-2 c = sym (drop-of-length-le (now (c .before .before .args .bytes)) (c .before .if1 .left))
 
 pub pixels-spec : {M : Type 1} → statement M
 pixels-spec =
