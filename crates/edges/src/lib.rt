@@ -149,7 +149,7 @@ fn wider(reach: u32) -> u32 {
     }
 }
 
-// The same, of the range that `halved` takes.
+// What is seen of the range that `halved` takes.
 fn seen_at(s: Seen, rank: u64, of_all: u32, of_part: u32) -> Seen {
     let low = rank < of_all as u64;
     Seen {
