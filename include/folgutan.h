@@ -11,7 +11,8 @@
  *   call returns.
  * - Nothing is kept: once a call returned, the slices are the caller's again.
  * The library allocates nothing, holds no state, and never fails but by its
- * answer. */
+ * answer. It counts on the floating-point environment that a C program starts
+ * with: rounding to nearest, and subnormal numbers kept. */
 #ifndef FOLGUTAN_H
 #define FOLGUTAN_H
 
@@ -211,8 +212,7 @@ folgutan_reading folgutan_read_line(const uint32_t *list, size_t list_len,
  *   at point (i, j) of the cell. Size 0 writes nothing.
  *
  * Each call reads all planes for FOLGUTAN_BAD_VALUE, whatever the size of the
- * cell: one pass over the planes, at most about 0.4 ns a value (0.17 ns, 1 ms
- * a call, was measured at 1920 by 1080).
+ * cell: one pass over the planes (about 1 ms at 1920 by 1080).
  *
  * FOLGUTAN_DONE: the first 3 * size * size entries of out are written, and
  *   those further on keep their content.

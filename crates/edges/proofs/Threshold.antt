@@ -1,4 +1,4 @@
--- The threshold by its bits: the clipped bits of the ranked entry, and halving their range by counting. Assumes nothing.
+-- The threshold by its bits: the clipped bits of the ranked entry, and cutting their range by counting. Assumes nothing.
 use Prim.Native.Nat.{ℕ, _-_, _≤_, _<_, max, min}
 use mathlib.Core.Path.{_≡_, refl, sym, ap, _∙_}
 use mathlib.Core.Bool.{Bool, true, false, cond}
@@ -14,7 +14,7 @@ use Rattle.rank.specs.Rank.{entry, countAtMost}
 use Rattle.rank.proofs.Entry.{at-least, at-most}
 use Rattle.rank.proofs.Members.{entry-has}
 use Rattle.edges.specs.Edges.{sample, clip, rankOf, threshold}
-use Rattle.edges.specs.Search.{sought, Halved, Holds}
+use Rattle.edges.specs.Search.{sought, Cut}
 use Rattle.edges.specs.declared.Range.{Range}
 use Rattle.edges.proofs.Sample.{AllAre}
 
@@ -54,7 +54,15 @@ pub threshold-is : (row column : ℕ) (g : List Float) (rank : ℕ) → rank ≡
 unfolding threshold
 threshold-is row column g rank e = rw e
 
--- ---- halving
+-- ---- cutting the range
+
+-- the range lies within the limits and holds the bits sought, if there is such an entry
+pub record Holds (l : List Float) (rank : ℕ) (r : Range) : Type 0 where
+  pub some : r .lo ≤ r .hi
+  pub floor : 0x3C23D70A ≤ r .lo
+  pub ceiling : r .hi ≤ 0x3F800000
+  pub low : rank < length l → r .lo ≤ sought l rank
+  pub high : rank < length l → sought l rank ≤ r .hi
 
 -- all bits that the threshold may have hold those sought
 pub holds-all : (l : List Float) (rank : ℕ) (r : Range) → AllAre Plain l → r .lo ≡ 0x3C23D70A → r .hi ≡ 0x3F800000 → Holds l rank r
@@ -67,20 +75,20 @@ holds-all l rank r p d e =
       high = λ h. omega (arith, sought-is l rank h p);
     }
 
--- the part of a range that is taken lies in it, and is smaller
-pub half-inside : {mid rank count : ℕ} {r s : Range} → r .lo ≤ mid → mid < r .hi → Halved r mid rank count s
+-- the side that is taken lies in the range, and is smaller
+pub cut-inside : {mid rank count : ℕ} {r s : Range} → r .lo ≤ mid → mid < r .hi → Cut r mid rank count s
     → (r .lo ≤ s .lo) × (s .lo ≤ s .hi) × (s .hi ≤ r .hi) × (s .hi - s .lo < r .hi - r .lo)
-half-inside {mid} {rank} {count} {r} {s} from to c = at (ltb rank count) refl
+cut-inside {mid} {rank} {count} {r} {s} from to c = at (ltb rank count) refl
   where
     at : (b : Bool) → ltb rank count ≡ b → (r .lo ≤ s .lo) × (s .lo ≤ s .hi) × (s .hi ≤ r .hi) × (s .hi - s .lo < r .hi - r .lo)
     at true q = let k = c .lower (ltb-true rank count q) in (omega (arith, k), omega (arith, k), omega (arith, k), omega (arith, k))
     at false q = let k = c .upper (ltb-false rank count q) in (omega (arith, k), omega (arith, k), omega (arith, k), omega (arith, k))
 
 -- it holds the bits still
-pub holds-half : {l : List Float} {mid rank count : ℕ} {r s : Range} → AllAre Plain l → Holds l rank r → r .lo ≤ mid → mid < r .hi
-    → count ≡ countAtMost (toBits binary32) mid l → Halved r mid rank count s → Holds l rank s
-holds-half {l} {mid} {rank} {count} {r} {s} p h from to e c =
-    let i = half-inside from to c in
+pub holds-cut : {l : List Float} {mid rank count : ℕ} {r s : Range} → AllAre Plain l → Holds l rank r → r .lo ≤ mid → mid < r .hi
+    → count ≡ countAtMost (toBits binary32) mid l → Cut r mid rank count s → Holds l rank s
+holds-cut {l} {mid} {rank} {count} {r} {s} p h from to e c =
+    let i = cut-inside from to c in
     record {
       some = i .1;
       floor = omega (arith, h .floor, i .0);

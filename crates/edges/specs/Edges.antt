@@ -11,7 +11,7 @@ use Rattle.binary32.specs.Binary32.{trunc}
 use Rattle.rank.specs.Rank.{entry}
 use Rattle.gradient.specs.Gradient.{gradients}
 
--- the gradients of the middle half, rows first
+-- the gradients of the middle half of the rows and of the columns, rows first
 abbrev pub sample : ℕ → ℕ → List Float → List Float
 sample row column g =
     grid (3 * row / 4 - row / 4) (3 * column / 4 - column / 4) (λ i j. getD g ((row / 4 + i) * column + (column / 4 + j)) nan)
@@ -38,6 +38,6 @@ edges h w planes = marks (threshold (h - 2) (w - 2) (gradients h w planes)) ((h 
 
 -- ---- for the contracts inside
 
--- every value has bits of at most infinity's: none is below 0.0, -0.0 or no number
+-- every value has bits of at most infinity's: none is negative, -0.0 or NaN
 abbrev pub AllPlain : List Float → Type 0
 AllPlain g = (k : ℕ) → k < length g → toBits binary32 (getD g k nan) ≤ 0x7F800000

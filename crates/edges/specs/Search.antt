@@ -3,14 +3,14 @@ use Prim.Native.Nat.{ℕ, _+_, _-_, _*_, _/_, _%_, _≤_, _<_}
 use mathlib.Core.Path.{_≡_}
 use mathlib.Core.List.{List}
 use lib.Ieee.{Float, nan, binary32, toBits}
-use lib.ListN.{length, getD}
+use lib.ListN.{getD}
 use Rattle.lists.specs.Tab.{grid}
 use Rattle.rank.specs.Rank.{entry}
 use Rattle.edges.specs.Edges.{clip}
 use Rattle.edges.specs.declared.Range.{Range}
 
--- A part of the sample: one row of each s, and of it one p-th of the columns. Which row of the s is taken changes without a period that the
--- lines of a board could share. With 1 and 1 it is the sample.
+-- A part of the sample: one row of each s, and of it one p-th of the columns. Which row of the s is taken varies, and comes round
+-- after 7 · s of them. With 1 and 1 it is the sample.
 abbrev pub part : ℕ → ℕ → ℕ → ℕ → List Float → List Float
 part s p row column g =
     let n = (3 * column / 4 - column / 4) / p in
@@ -24,14 +24,6 @@ abbrev pub sought : List Float → ℕ → ℕ
 sought l rank = toBits binary32 (clip (entry (toBits binary32) nan l rank))
 
 -- up to mid where more than `rank` values are at most mid, else above it
-pub record Halved (r : Range) (mid rank count : ℕ) (s : Range) : Type 0 where
+pub record Cut (r : Range) (mid rank count : ℕ) (s : Range) : Type 0 where
   pub lower : rank < count → (s .lo ≡ r .lo) × (s .hi ≡ mid)
   pub upper : count ≤ rank → (s .lo ≡ mid + 1) × (s .hi ≡ r .hi)
-
--- the range lies within the limits and holds the bits sought, if there is such an entry
-pub record Holds (l : List Float) (rank : ℕ) (r : Range) : Type 0 where
-  pub some : r .lo ≤ r .hi
-  pub floor : 0x3C23D70A ≤ r .lo
-  pub ceiling : r .hi ≤ 0x3F800000
-  pub low : rank < length l → r .lo ≤ sought l rank
-  pub high : rank < length l → sought l rank ≤ r .hi

@@ -2,14 +2,14 @@
 // Definitions: specs/Edges; specs/Search has those of the search for the threshold. Laws for callers: proofs/Laws.
 ghost use mathlib.Core.Path.{_≡_};
 ghost use mathlib.Core.List.{_++_};
-ghost use Prim.Native.Nat.{_+_, _-_, _*_, _/_, _^_, _≤_, _<_, min};
+ghost use Prim.Native.Nat.{_+_, _-_, _*_, _/_, _^_, _≤_, _<_};
 ghost use lib.Ieee.{nan, binary32, le, toBits};
 ghost use lib.ListN.{length, getD, drop};
 ghost use Rattle.lists.specs.Tab.{tab};
 ghost use Rattle.lists.specs.Picture.{bit};
 ghost use Rattle.rank.specs.Rank.{countAtMost};
 ghost use Rattle.edges.specs.Edges.{sample, rankOf, threshold, marks, AllPlain};
-ghost use Rattle.edges.specs.Search.{part, sought, Halved};
+ghost use Rattle.edges.specs.Search.{part, sought, Cut};
 
 // The bits of 0.01 and of 1.0, the limits of the threshold.
 const LEAST_BITS: u32 = 0x3C23D70A;
@@ -24,7 +24,12 @@ const PARTS: usize = 11;
 // So many guesses are made at most.
 const GUESSES: u32 = 8;
 
-// The place in the sorted sample of m.
+// Without a guess, counts go up to 4 · NEAR from an end. FAR is farther than any range is wide.
+const NEAR: u32 = 64;
+
+const FAR: u32 = 0x4000000;
+
+// The threshold's place among m sorted values.
 fn rank_of(m: usize) -> u64
     requires { ⌜ m ≤ 2 ^ 22 ⌝ }
     ensures { λ r. ⌜ r ≡ rankOf m ⌝ }
@@ -78,29 +83,23 @@ fn count_part(every: usize, parts: usize, row: usize, column: usize, g: &[f32], 
     count
 }
 
-// A range that holds the bits sought.
+// A range of bits.
 struct Range {
     lo: u32,
     hi: u32,
 }
 
-fn smaller(a: u32, b: u32) -> u32
-    ensures { λ r. ⌜ r ≡ min a b ⌝ }
-{
-    if a < b { a } else { b }
-}
-
-fn half(r: Range) -> u32
+fn halfway(r: Range) -> u32
     requires { ⌜ r .lo < r .hi ⌝ }
     ensures { λ mid. ⌜ (r .lo ≤ mid) × (mid < r .hi) ⌝ }
 {
     r.lo + (r.hi - r.lo) / 2
 }
 
-// The part of the range, up to mid or above it, that holds the bits of entry `rank`, where `count` values are at most mid.
-fn halved(r: Range, mid: u32, rank: u64, count: u32) -> Range
+// The side of the range, up to mid or above it, that holds the bits of entry `rank`, where `count` values are at most mid.
+fn cut(r: Range, mid: u32, rank: u64, count: u32) -> Range
     requires { ⌜ (r .lo ≤ mid) × (mid < r .hi) ⌝ }
-    ensures { λ s. ⌜ Halved r mid rank count s ⌝ }
+    ensures { λ s. ⌜ Cut r mid rank count s ⌝ }
 {
     if rank < count as u64 {
         Range { lo: r.lo, hi: mid }
@@ -112,19 +111,20 @@ fn halved(r: Range, mid: u32, rank: u64, count: u32) -> Range
     }
 }
 
-// a - b, or 0 where that is below 0.
-fn beyond(a: u32, b: u32) -> u32
+fn either(first: bool, a: u32, b: u32) -> u32 {
+    if first { a } else { b }
+}
+
+// a - b, or 0 where b is larger.
+fn less(a: u32, b: u32) -> u32
     ensures { λ r. ⌜ (r ≡ a - b) × (r ≤ 0xFFFFFFFF) ⌝ }
 {
     if a < b { 0 } else { a - b }
 }
 
-fn either(first: bool, a: u32, b: u32) -> u32 {
-    if first { a } else { b }
-}
-
-// How many values, of the sample and of the part that guesses are made from, are below a range and up to its end; how many guesses may
-// follow; and how far from which end to count where there is none. Only the time depends on them.
+// What the counts told, to choose the place of the next one; only the time depends on it. How many values of the sample, and of the part,
+// are below the range and up to its end (at first 0 and all); how many guesses are left; how far from an end to count without a guess; and
+// whether the last count kept the lower side.
 struct Seen {
     below: u32,
     upto: u32,
@@ -132,89 +132,7 @@ struct Seen {
     part_upto: u32,
     guesses: u32,
     reach: u32,
-    low: bool,
-}
-
-// While guesses are left and the part has values in the range.
-fn guessing(s: Seen) -> bool {
-    0 < s.guesses && s.part_below < s.part_upto
-}
-
-// The next reach: it grows until only the halving is left.
-fn wider(reach: u32) -> u32 {
-    if reach < 0x1000000 {
-        4 * reach + 3
-    } else {
-        reach
-    }
-}
-
-// What is seen of the range that `halved` takes.
-fn seen_at(s: Seen, rank: u64, of_all: u32, of_part: u32) -> Seen {
-    let low = rank < of_all as u64;
-    Seen {
-        below: either(low, s.below, of_all),
-        upto: either(low, of_all, s.upto),
-        part_below: either(low, s.part_below, of_part),
-        part_upto: either(low, of_part, s.part_upto),
-        guesses: beyond(s.guesses, 1),
-        reach: either(guessing(s), s.reach, wider(s.reach)),
-        low: low,
-    }
-}
-
-// The rank in the part that lies between those of the range's ends as `rank` does in the sample.
-fn rank_in_part(s: Seen, rank: u32) -> u64 {
-    let wide = beyond(s.upto, s.below) as u64;
-    let share = beyond(rank, s.below) as u64 * beyond(s.part_upto, s.part_below) as u64;
-    if wide == 0 {
-        0
-    } else {
-        s.part_below as u64 + share / wide
-    }
-}
-
-// Where entry `rank` of the part lies, as near as the range allows. Only the time depends on it.
-fn guess(row: usize, column: usize, g: &[f32], rank: u64, from: Range) -> u32
-    requires { ⌜ (row ≤ 4094) × (column ≤ 4094) × (length (now g) ≡ row * column) × (from .lo ≤ from .hi) × (from .hi ≤ 0x3F800000) ⌝ }
-    requires { ⌜ AllPlain (now g) ⌝ }
-    ensures { λ r. ⌜ (from .lo ≤ r) × (r ≤ from .hi) ⌝ }
-{
-    let mut range = from;
-    while range.lo < range.hi {
-        let mid = half(range);
-        let count = count_part(EVERY, PARTS, row, column, g, mid);
-        range = halved(range, mid, rank, count);
-    }
-    range.lo
-}
-
-// Near one end of the range, then the other, where values often lie close together; in the middle once that is nearer.
-fn near_end(r: Range, reach: u32, low: bool) -> u32
-    requires { ⌜ r .lo < r .hi ⌝ }
-    ensures { λ mid. ⌜ (r .lo ≤ mid) × (mid < r .hi) ⌝ }
-{
-    if (r.hi - r.lo) / 2 <= reach {
-        half(r)
-    } else if low {
-        r.lo + reach
-    } else {
-        r.hi - 1 - reach
-    }
-}
-
-// Where to count next.
-fn place(row: usize, column: usize, g: &[f32], rank: u32, range: Range, seen: Seen) -> u32
-    requires { ⌜ (row ≤ 4094) × (column ≤ 4094) × (length (now g) ≡ row * column) × (range .lo < range .hi) × (range .hi ≤ 0x3F800000) ⌝ }
-    requires { ⌜ AllPlain (now g) ⌝ }
-    ensures { λ mid. ⌜ (range .lo ≤ mid) × (mid < range .hi) ⌝ }
-{
-    if guessing(seen) {
-        let at = guess(row, column, g, rank_in_part(seen, rank), range);
-        smaller(at, range.hi - 1)
-    } else {
-        near_end(range, seen.reach, seen.low)
-    }
+    kept_lower: bool,
 }
 
 // How many values a part of the sample has.
@@ -225,7 +143,6 @@ fn size_of_part(every: usize, parts: usize, row: usize, column: usize) -> u32
     size as u32
 }
 
-// What is known of all bits that the threshold may have: that they are between none and all of the values.
 fn seen_first(row: usize, column: usize) -> Seen
     requires { ⌜ (row ≤ 4094) × (column ≤ 4094) ⌝ }
 {
@@ -236,7 +153,89 @@ fn seen_first(row: usize, column: usize) -> Seen
         part_upto: size_of_part(EVERY, PARTS, row, column),
         guesses: GUESSES,
         reach: 0,
-        low: false,
+        kept_lower: false,
+    }
+}
+
+// Whether to guess: guesses are left, and the part may have values in the range.
+fn guessing(s: Seen) -> bool {
+    0 < s.guesses && s.part_below < s.part_upto
+}
+
+// The next reach: four times as far, then so far that only halving is left.
+fn wider(reach: u32) -> u32 {
+    if reach < NEAR { 4 * reach + 3 } else { FAR }
+}
+
+// What is seen after a count, of the side that `cut` takes.
+fn seen_next(s: Seen, rank: u64, of_all: u32, of_part: u32) -> Seen {
+    let lower = rank < of_all as u64;
+    Seen {
+        below: either(lower, s.below, of_all),
+        upto: either(lower, of_all, s.upto),
+        part_below: either(lower, s.part_below, of_part),
+        part_upto: either(lower, of_part, s.part_upto),
+        guesses: less(s.guesses, 1),
+        reach: either(guessing(s), s.reach, wider(s.reach)),
+        kept_lower: lower,
+    }
+}
+
+// The rank in the part that lies between those of the range's ends as `rank` does in the sample. It does lie between them, but no proof
+// needs that: `less` and the test for 0 stand in for one.
+fn rank_in_part(s: Seen, rank: u32) -> u64 {
+    let wide = less(s.upto, s.below) as u64;
+    let share = less(rank, s.below) as u64 * less(s.part_upto, s.part_below) as u64;
+    if wide == 0 {
+        0
+    } else {
+        s.part_below as u64 + share / wide
+    }
+}
+
+// Where entry `rank` of the part lies, as near as the range allows.
+fn guess(row: usize, column: usize, g: &[f32], rank: u64, from: Range) -> u32
+    requires { ⌜ (row ≤ 4094) × (column ≤ 4094) × (length (now g) ≡ row * column) × (from .lo ≤ from .hi) × (from .hi ≤ 0x3F800000) ⌝ }
+    requires { ⌜ AllPlain (now g) ⌝ }
+    ensures { λ r. ⌜ (from .lo ≤ r) × (r ≤ from .hi) ⌝ }
+{
+    let mut range = from;
+    while range.lo < range.hi {
+        let mid = halfway(range);
+        let count = count_part(EVERY, PARTS, row, column, g, mid);
+        range = cut(range, mid, rank, count);
+    }
+    range.lo
+}
+
+// `reach` from the end that the last count did not move, where values often lie close together; in the middle once that is nearer.
+fn near_end(r: Range, reach: u32, from_lo: bool) -> u32
+    requires { ⌜ r .lo < r .hi ⌝ }
+    ensures { λ mid. ⌜ (r .lo ≤ mid) × (mid < r .hi) ⌝ }
+{
+    if (r.hi - r.lo) / 2 <= reach {
+        halfway(r)
+    } else if from_lo {
+        r.lo + reach
+    } else {
+        r.hi - 1 - reach
+    }
+}
+
+// Where to count next.
+fn next_count(row: usize, column: usize, g: &[f32], rank: u32, range: Range, seen: Seen) -> u32
+    requires { ⌜ (row ≤ 4094) × (column ≤ 4094) × (length (now g) ≡ row * column) × (range .lo < range .hi) × (range .hi ≤ 0x3F800000) ⌝ }
+    requires { ⌜ AllPlain (now g) ⌝ }
+    ensures { λ mid. ⌜ (range .lo ≤ mid) × (mid < range .hi) ⌝ }
+{
+    if guessing(seen) {
+        let before_end = Range {
+            lo: range.lo,
+            hi: range.hi - 1,
+        };
+        guess(row, column, g, rank_in_part(seen, rank), before_end)
+    } else {
+        near_end(range, seen.reach, seen.kept_lower)
     }
 }
 
@@ -253,11 +252,11 @@ fn threshold_bits(row: usize, column: usize, g: &[f32], rank: u32) -> u32
         hi: MOST_BITS,
     };
     while range.lo < range.hi {
-        let mid = place(row, column, g, rank, range, seen);
+        let mid = next_count(row, column, g, rank, range, seen);
         let of_all = count_part(1, 1, row, column, g, mid);
         let of_part = count_part(EVERY, PARTS, row, column, g, mid);
-        seen = seen_at(seen, rank as u64, of_all, of_part);
-        range = halved(range, mid, rank as u64, of_all);
+        seen = seen_next(seen, rank as u64, of_all, of_part);
+        range = cut(range, mid, rank as u64, of_all);
     }
     range.lo
 }

@@ -113,6 +113,7 @@ pub extern "C" fn folgutan_inner_narrow(
 )
     requires { ⌜ UnitPlanes height width (now planes) × (height * width ≤ length (now scratch)) ⌝ }
     ensures { λ _. ⌜ now (planes .exit) ≡ Narrow.narrow 3 height width (now (planes .entry)) ⌝ }
+    ensures { λ _. ⌜ drop (height * width) (now (scratch .exit)) ≡ drop (height * width) (now (scratch .entry)) ⌝ }
 {
     narrow::narrow(height, width, planes, scratch)
 }

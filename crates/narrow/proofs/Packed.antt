@@ -1,13 +1,13 @@
 -- The packed planes of a screen row by row: row r of all of them is row r % height of plane r / height. Assumes nothing.
 use Prim.Native.Nat.{ℕ, _+_, _-_, _*_, _/_, _%_, _<_, _≤_}
-use mathlib.Core.Path.{_≡_, ap, _∙_}
+use mathlib.Core.Path.{_≡_, sym, ap, _∙_}
 use mathlib.Core.List.{List, _++_}
 use native.Mathlib.Nat.{mul-comm, mul-assoc, mul-le-mul, add-mul, one-mul, div-div-eq-div-mul, div-le-self}
 use native.Mathlib.Omega.{arith}
 use lib.Arith.{digits-div, digits-mod, mod-mul}
 use lib.Ieee.{Float}
 use lib.ListN.{length, take, drop, length-drop}
-use lib.Seq.{take-at}
+use lib.Seq.{take-at, drop-at, drop-drop}
 use borrow.Rule.Slice.PartMut.{midOf, putMid}
 use Rattle.lists.specs.Fill.{Filled}
 use Rattle.lists.specs.Tab.{tab}
@@ -68,3 +68,8 @@ pub laid-out : (n m : ℕ) (p zeros planes scratch : List Float) {filled copied 
 laid-out n m p zeros planes scratch {filled} {copied} {rest} len a b c =
     let is : copied ≡ p ++ drop n planes = b ∙ rw (a, take-at p (drop n scratch) n len) in
     put-behind n m p zeros planes len is c
+
+-- where the first n entries were written, those from n + k on are as they were
+pub behind-kept : (n k : ℕ) (front : List Float) {last : List Float} (l : List Float) → length front ≡ n → last ≡ front ++ drop n l
+    → drop (n + k) last ≡ drop (n + k) l
+behind-kept n k front l h e = sym (drop-drop k n _) ∙ ap (drop k) (rw (e, drop-at front (drop n l) n h)) ∙ drop-drop k n l

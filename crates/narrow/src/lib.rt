@@ -115,10 +115,11 @@ fn clear_front(out: &mut [f32], n: usize)
     }
 }
 
-// Narrows the planes by 3. `scratch` is free afterwards.
+// Narrows the planes by 3. The first height · width entries of `scratch` are free afterwards.
 pub fn narrow(height: usize, width: usize, planes: &mut [f32], scratch: &mut [f32])
     requires { ⌜ UnitPlanes height width (now planes) × (height * width ≤ length (now scratch)) ⌝ }
     ensures { λ _. ⌜ now (planes .exit) ≡ Spec.narrow 3 height width (now (planes .entry)) ⌝ }
+    ensures { λ _. ⌜ drop (height * width) (now (scratch .exit)) ≡ drop (height * width) (now (scratch .entry)) ⌝ }
 {
     let n = 3 * (height / 3 * (width / 3));
     let rest = 3 * (height * width) - n;

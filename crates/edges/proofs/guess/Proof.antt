@@ -1,7 +1,7 @@
 -- `edges::guess` meets its contract. The invariant: the range lies within the one that was handed in. It falls.
 use Prim.Native.Nat.{_-_, _≤_, _<_}
 use native.Mathlib.Omega.{arith}
-use Rattle.edges.proofs.Threshold.{half-inside}
+use Rattle.edges.proofs.Threshold.{cut-inside}
 use borrow.Author.Needs.{needs}
 use Rattle.edges.proofs.guess.Statement.{statement}
 use Rattle.edges.proofs.guess.Tie as tie
@@ -15,21 +15,21 @@ abbrev μ-loop : tie.MeasureT-loop
 loop-holds : tie.Need-loop-holds Inv-loop μ-loop
 loop-holds c = search needs
 
-half-requires : tie.Need-half-requires Inv-loop μ-loop
-half-requires c κs = search needs
+halfway-requires : tie.Need-halfway-requires Inv-loop μ-loop
+halfway-requires c κs = search needs
 
 count-part-requires : tie.Need-count-part-requires Inv-loop μ-loop
 count-part-requires c κs = search needs
 
-halved-requires : tie.Need-halved-requires Inv-loop μ-loop
-halved-requires c κs = search needs
+cut-requires : tie.Need-cut-requires Inv-loop μ-loop
+cut-requires c κs = search needs
 
 -- the range after a turn
-next : (c : tie.After-halved Inv-loop μ-loop)
+next : (c : tie.After-cut Inv-loop μ-loop)
     → let r = c .before .before .before .before .before .loop .range in
-    let s = c .halved .result in
+    let s = c .cut .result in
     (r .lo ≤ s .lo) × (s .lo ≤ s .hi) × (s .hi ≤ r .hi) × (s .hi - s .lo < r .hi - r .lo)
-next c = let m = c .before .before .half .ensures in half-inside (m .0) (m .1) (c .halved .ensures)
+next c = let m = c .before .before .halfway .ensures in cut-inside (m .0) (m .1) (c .cut .ensures)
 
 loop-less : tie.Need-loop-less Inv-loop μ-loop
 loop-less c = next c .3
@@ -50,9 +50,9 @@ guess-spec =
     Inv-loop
     μ-loop
     loop-holds
-    half-requires
+    halfway-requires
     count-part-requires
-    halved-requires
+    cut-requires
     loop-less
     loop-again
     returns)

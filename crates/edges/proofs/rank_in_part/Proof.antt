@@ -6,26 +6,26 @@ use borrow.Author.Needs.{needs}
 use Rattle.edges.proofs.rank_in_part.Statement.{statement}
 use Rattle.edges.proofs.rank_in_part.Tie as tie
 
-beyond-requires : tie.Need-beyond-requires
-beyond-requires c κs = search needs
+less-requires : tie.Need-less-requires
+less-requires c κs = search needs
 
 cast-wide : tie.Need-cast-wide
 cast-wide c = search needs
 
-beyond-requires-2 : tie.Need-beyond-requires-2
-beyond-requires-2 c κs = search needs
+less-requires-2 : tie.Need-less-requires-2
+less-requires-2 c κs = search needs
 
 cast-share : tie.Need-cast-share
 cast-share c = search needs
 
-beyond-requires-3 : tie.Need-beyond-requires-3
-beyond-requires-3 c κs = search needs
+less-requires-3 : tie.Need-less-requires-3
+less-requires-3 c κs = search needs
 
 cast-share-2 : tie.Need-cast-share-2
 cast-share-2 c = search needs
 
 mul-share : tie.Need-mul-share
-mul-share c = omega (arith, mul-le-mul (c .before .beyond2 .ensures .1) (c .beyond3 .ensures .1))
+mul-share c = omega (arith, mul-le-mul (c .before .less2 .ensures .1) (c .less3 .ensures .1))
 
 cast-result : tie.Need-cast-result
 cast-result c = search needs
@@ -36,8 +36,8 @@ div-result c = search needs
 add-result : tie.Need-add-result
 add-result c =
     let b = c .before .before in
-    let x = b .before .beyond2 .result * b .beyond3 .result in
-    omega (arith, c .struct-known .given .1 .1 .0, mul-le-mul (b .before .beyond2 .ensures .1) (b .beyond3 .ensures .1), div-le-self x (b .before .before .beyond .result))
+    let x = b .before .less2 .result * b .less3 .result in
+    omega (arith, c .struct-known .given .1 .1 .0, mul-le-mul (b .before .less2 .ensures .1) (b .less3 .ensures .1), div-le-self x (b .before .before .less .result))
 
 returns : tie.Need-returns
 returns c = search needs
@@ -49,11 +49,11 @@ pub rank-in-part-spec : {M : Type 1} → statement M
 rank-in-part-spec =
     tie.close
     (tie.spec
-    beyond-requires
+    less-requires
     cast-wide
-    beyond-requires-2
+    less-requires-2
     cast-share
-    beyond-requires-3
+    less-requires-3
     cast-share-2
     mul-share
     cast-result

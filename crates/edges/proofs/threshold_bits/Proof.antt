@@ -5,9 +5,9 @@ use native.Mathlib.Omega.{arith}
 use denote.Ref.{now}
 use lib.ListN.{length}
 use Rattle.binary32.proofs.Plain.{Plain}
-use Rattle.edges.specs.Search.{part, sought, Holds}
+use Rattle.edges.specs.Search.{part, sought}
 use Rattle.edges.proofs.Sample.{AllAre, part-plain, part-all}
-use Rattle.edges.proofs.Threshold.{holds-all, holds-half, half-inside}
+use Rattle.edges.proofs.Threshold.{Holds, holds-all, holds-cut, cut-inside}
 use borrow.Author.Needs.{needs}
 use Rattle.edges.proofs.threshold_bits.Statement.{statement}
 use Rattle.edges.proofs.threshold_bits.Tie as tie
@@ -35,8 +35,8 @@ loop-holds c =
     let a = c .before .before .args in
     holds-all (part 1 1 (a .row) (a .column) (now (a .g))) (a .rank) _ (plain c) refl refl
 
-place-requires : tie.Need-place-requires Inv-loop μ-loop
-place-requires c κs = search needs
+next-count-requires : tie.Need-next-count-requires Inv-loop μ-loop
+next-count-requires c κs = search needs
 
 count-part-requires : tie.Need-count-part-requires Inv-loop μ-loop
 count-part-requires c κs = search needs
@@ -44,23 +44,23 @@ count-part-requires c κs = search needs
 count-part-requires-2 : tie.Need-count-part-requires-2 Inv-loop μ-loop
 count-part-requires-2 c κs = search needs
 
-seen-at-requires : tie.Need-seen-at-requires Inv-loop μ-loop
-seen-at-requires c κs = search needs
+seen-next-requires : tie.Need-seen-next-requires Inv-loop μ-loop
+seen-next-requires c κs = search needs
 
-halved-requires : tie.Need-halved-requires Inv-loop μ-loop
-halved-requires c κs = search needs
+cut-requires : tie.Need-cut-requires Inv-loop μ-loop
+cut-requires c κs = search needs
 
 loop-less : tie.Need-loop-less Inv-loop μ-loop
 loop-less c =
-    let m = c .before .before .before .before .place .ensures in
-    half-inside (m .0) (m .1) (c .halved .ensures) .3
+    let m = c .before .before .before .before .next-count .ensures in
+    cut-inside (m .0) (m .1) (c .cut .ensures) .3
 
 loop-again : tie.Need-loop-again Inv-loop μ-loop
 loop-again c =
     let counted = c .before .before .before in
     let placed = counted .before in
     let at = placed .before .before .before in
-    holds-half (plain (at .before)) (at .loop .inv) (placed .place .ensures .0) (placed .place .ensures .1) (counted .count-part .ensures) (c .halved .ensures)
+    holds-cut (plain (at .before)) (at .loop .inv) (placed .next-count .ensures .0) (placed .next-count .ensures .1) (counted .count-part .ensures) (c .cut .ensures)
 
 returns : tie.Need-returns Inv-loop μ-loop
 returns c =
@@ -79,11 +79,11 @@ threshold-bits-spec =
     μ-loop
     seen-first-requires
     loop-holds
-    place-requires
+    next-count-requires
     count-part-requires
     count-part-requires-2
-    seen-at-requires
-    halved-requires
+    seen-next-requires
+    cut-requires
     loop-less
     loop-again
     returns)

@@ -46,7 +46,7 @@ same-length-3 : tie.Need-same-length-3 Inv-loop μ-loop
 same-length-3 c = search needs
 
 returns : tie.Need-returns Inv-loop μ-loop
-returns c = narrows-small (c .before .before .before .before .before .before .before .before .before .before .before .loop .inv .0) (sym (c .before .before .before .before .before .before .before .before .before .before .thin .ensures) ∙ c .before .before .before .before .before .before .before .before .before .if1 .taken) (sym (c .before .small .ensures) ∙ c .if2 .taken) (c .before .before .before .before .before .before .narrow .ensures)
+returns c = narrows-small (c .before .before .before .before .before .before .before .before .before .before .before .loop .inv .0) (sym (c .before .before .before .before .before .before .before .before .before .before .thin .ensures) ∙ c .before .before .before .before .before .before .before .before .before .if1 .taken) (sym (c .before .small .ensures) ∙ c .if2 .taken) (c .before .before .before .before .before .before .narrow .ensures .0)
 
 look-requires : tie.Need-look-requires Inv-loop μ-loop
 look-requires c κs =
@@ -54,7 +54,7 @@ look-requires c κs =
     let l = large _ _ (sym (c .before .before .before .before .small .ensures) ∙ c .before .before .before .if2 .left) in
     let ask = c .before .before .before .before .before .before .before .before .before .before .before .before .before .before .before .before .before .before .pre .1 in
     let s = smaller 3 (c .before .before .before .before .before .before .before .before .before .before .before .before .before .before .loop .h) (c .before .before .before .before .before .before .before .before .before .before .before .before .before .before .loop .w) in
-    (rw (c .before .before .before .before .before .before .before .before .before .narrow .ensures) (fit-next (i .0 .fit) (l .0) (l .1)), omega (arith, s, i .0 .area, i .1, ask .0), omega (arith, s, i .0 .area, i .2, ask .1))
+    (rw (c .before .before .before .before .before .before .before .before .before .narrow .ensures .0) (fit-next (i .0 .fit) (l .0) (l .1)), omega (arith, s, i .0 .area, i .1, ask .0), omega (arith, s, i .0 .area, i .2, ask .1))
 
 loop-less : tie.Need-loop-less Inv-loop μ-loop
 loop-less c = omega (arith, c .before .before .before .before .before .before .before .before .before .before .before .before .before .before .before .before .before .before .before .loop .inv .0 .low-h)
@@ -62,7 +62,7 @@ loop-less c = omega (arith, c .before .before .before .before .before .before .b
 loop-again : tie.Need-loop-again Inv-loop μ-loop
 loop-again c =
     let i = c .before .before .before .before .before .before .before .before .before .before .before .before .before .before .before .before .before .before .before .loop .inv in
-    let e = c .before .before .before .before .before .before .before .before .before .before .before .before .before .before .narrow .ensures in
+    let e = c .before .before .before .before .before .before .before .before .before .before .before .before .before .before .narrow .ensures .0 in
     (rw e (going-more (i .0) (sym (c .before .before .before .before .before .before .before .before .before .before .before .before .before .before .before .before .before .before .thin .ensures) ∙ c .before .before .before .before .before .before .before .before .before .before .before .before .before .before .before .before .before .if1 .taken) (sym (c .before .before .before .before .before .before .before .before .before .small .ensures) ∙ c .before .before .before .before .before .before .before .before .if2 .left) (rw e at (c .before .before .before .before .look .ensures .bounds-are))), omega (arith, i .1), omega (arith, i .2))
 
 same-length-4 : tie.Need-same-length-4 Inv-loop μ-loop

@@ -6,7 +6,7 @@ use lib.ListN.{replicate}
 use Rattle.board.specs.Screen.{packed, view}
 use Rattle.narrow.specs.Narrow.{narrowed}
 use native.Mathlib.Omega.{arith}
-use Rattle.narrow.proofs.Packed.{shrinks, length-packed, laid-out}
+use Rattle.narrow.proofs.Packed.{shrinks, length-packed, laid-out, behind-kept}
 use denote.Ref.{now}
 use borrow.Author.Needs.{needs}
 use Rattle.narrow.proofs.narrow.Statement.{statement}
@@ -64,14 +64,18 @@ returns c =
     let n = 3 * (a .height / 3 * (a .width / 3)) in
     let all : n + (3 * (a .height * a .width) - n) ≡ 3 * (a .height * a .width) = omega (arith, shrinks (a .height) (a .width)) in
     let s = narrowed 3 (view (a .height) (a .width) (now (a .planes))) in
-    rw all at
-    (laid-out n (3 * (a .height * a .width) - n) (packed s) (replicate (3 * (a .height * a .width) - n) (ofBits binary32 0))
-    (now (a .planes))
-    (now (a .scratch))
-    (length-packed s)
-    (c .before .before .before .before .before .before .before .before .before .before .before .narrow-planes .ensures)
-    (c .before .before .before .before .before .before .copy-front .ensures)
-    (c .before .before .clear-front .ensures))
+    let laid = c .before .before .before .before .before .before .before .before .before .before .before .narrow-planes .ensures in
+    let most : n + (a .height * a .width - n) ≡ a .height * a .width = omega (arith, shrinks (a .height) (a .width)) in (
+      rw all at
+          (laid-out n (3 * (a .height * a .width) - n) (packed s) (replicate (3 * (a .height * a .width) - n) (ofBits binary32 0))
+          (now (a .planes))
+          (now (a .scratch))
+          (length-packed s)
+          laid
+          (c .before .before .before .before .before .before .copy-front .ensures)
+          (c .before .before .clear-front .ensures)),
+      rw most at (behind-kept n (a .height * a .width - n) (packed s) (now (a .scratch)) (length-packed s) laid),
+    )
 
 pub narrow-spec : {M : Type 1} → statement M
 narrow-spec =
