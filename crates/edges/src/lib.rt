@@ -143,6 +143,7 @@ fn size_of_part(every: usize, parts: usize, row: usize, column: usize) -> u32
     size as u32
 }
 
+// Before any count.
 fn seen_first(row: usize, column: usize) -> Seen
     requires { ⌜ (row ≤ 4094) × (column ≤ 4094) ⌝ }
 {
