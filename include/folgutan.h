@@ -212,7 +212,7 @@ folgutan_reading folgutan_read_line(const uint32_t *list, size_t list_len,
  *   at point (i, j) of the cell. Size 0 writes nothing.
  *
  * Each call reads all planes for FOLGUTAN_BAD_VALUE, whatever the size of the
- * cell: one pass over the planes (about 1 ms at 1920 by 1080).
+ * cell: one pass over the planes (1 to 2 ms at 1920 by 1080).
  *
  * FOLGUTAN_DONE: the first 3 * size * size entries of out are written, and
  *   those further on keep their content.
