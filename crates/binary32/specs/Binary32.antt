@@ -2,7 +2,12 @@
 use Prim.Native.Nat.{ℕ}
 use mathlib.Core.Bool.{Bool, false, cond}
 use lib.Dec.{leb}
-use lib.Ieee.{Float, nan, inf, fin, binary32, lt, toBits, toUnsigned}
+use lib.IntN.{pos}
+use lib.Ieee.{Float, nan, inf, fin, binary32, lt, ofInt, toBits, toUnsigned}
+
+-- a whole number as a binary32
+abbrev pub float : ℕ → Float
+float n = ofInt binary32 (pos n)
 
 -- 01, "How each operation declines": the bits are at most 3F800000 hexadecimal, so the value is 0.0 to 1.0 and not -0.0.
 -- What is no number has bits above that.

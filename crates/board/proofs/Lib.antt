@@ -1,1 +1,3 @@
+pub mod Planes
 pub mod Sides
+pub mod Units

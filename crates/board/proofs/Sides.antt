@@ -4,9 +4,10 @@ use mathlib.Core.Path.{_≡_, refl}
 use mathlib.Core.Bool.{Bool, true, false, not, cond, _&&_, _||_, true≢false, false≢true}
 use native.Mathlib.Nat.{mul-le-mul, mul-le-mul-right}
 use native.Mathlib.Omega.{arith}
-use borrow.Author.Tests.{leb-true, ltb-false}
+use borrow.Author.Tests.{leb-true, ltb-false, le-ltb}
 use lib.Dec.{leb, ltb}
 use Rattle.board.specs.Board.{leastPlaneSide, outside, sidesOutside, hasChannel}
+use Rattle.board.specs.Planes.{SidesIn}
 
 pub both : (p q : Bool) → (p && q) ≡ true → (p ≡ true) × (q ≡ true)
 both true q e = (refl, e)
@@ -21,17 +22,10 @@ pub passed : (bad : Bool) (n later : ℕ) → cond bad (n + 1) later ≡ 0 → (
 passed true n later e = absurd (omega arith)
 passed false n later e = (refl, e)
 
--- sides within the limits
-pub record Inside (least h w : ℕ) : Type 0 where
-  pub low-h : least ≤ h
-  pub high-h : h ≤ 4096
-  pub low-w : least ≤ w
-  pub high-w : w ≤ 4096
-  pub area : h * w ≤ 16777216
-
-pub inside : (least h w : ℕ) → sidesOutside least h w ≡ false → Inside least h w
+-- sides that pass the test are within the limits, and the other way round
+pub sides-in : (least h w : ℕ) → sidesOutside least h w ≡ false → SidesIn least h w
 unfolding sidesOutside outside
-inside least h w e =
+sides-in least h w e =
     let s = neither (outside least h) (outside least w) e in
     let a = neither (ltb h least) (ltb 4096 h) (s .0) in
     let b = neither (ltb w least) (ltb 4096 w) (s .1) in
@@ -44,6 +38,10 @@ inside least h w e =
       high-w = high-w;
       area = mul-le-mul high-h high-w;
     }
+
+pub sides-pass : {least h w : ℕ} → SidesIn least h w → sidesOutside least h w ≡ false
+unfolding sidesOutside outside
+sides-pass {least} {h} {w} s = rw (le-ltb h least (s .low-h), le-ltb 4096 h (s .high-h), le-ltb w least (s .low-w), le-ltb 4096 w (s .high-w))
 
 -- a plane that stands among len values
 pub record Stands (h w len k : ℕ) : Type 0 where

@@ -5,6 +5,8 @@ use mathlib.Core.Bool.{Bool, not, _&&_, _||_}
 use lib.Dec.{leb, ltb}
 use lib.Ieee.{binary32, ofBits}
 use Rattle.board.specs.declared.Board.{Board}
+use Rattle.board.specs.declared.Bounds.{Bounds}
+use Rattle.board.specs.declared.Spacing.{Spacing}
 
 -- sides of a screen that is loaded or located, and of planes that have a gradient, a channel or samples
 abbrev pub leastSide : ℕ
@@ -35,6 +37,38 @@ fresh h w =
 -- what a refused load hands back
 abbrev pub blank : Board
 blank = fresh 0 0
+
+-- the record with other sides
+abbrev pub resized : Board → ℕ → ℕ → Board
+resized b h w =
+    record {
+      height = h;
+      width = w;
+      «r_1» = b .«r_1»;
+      «c_1» = b .«c_1»;
+      r0 = b .r0;
+      c0 = b .c0;
+      r = b .r;
+      c = b .c;
+      pixelr = b .pixelr;
+      pixelc = b .pixelc;
+    }
+
+-- the record with what was read: the corner of the bounds, and the cells of both axes
+abbrev pub withReading : Board → Bounds → Spacing → Spacing → Board
+withReading b bounds rows columns =
+    record {
+      height = b .height;
+      width = b .width;
+      «r_1» = bounds .«r_1»;
+      «c_1» = bounds .«c_1»;
+      r0 = rows .offset;
+      c0 = columns .offset;
+      r = rows .count;
+      c = columns .count;
+      pixelr = rows .pitch;
+      pixelc = columns .pitch;
+    }
 
 unfoldable pub outside : ℕ → ℕ → Bool
 outside least side = ltb side least || ltb mostSide side

@@ -1,2 +1,3 @@
 pub mod Board
+pub mod Planes
 pub mod Screen

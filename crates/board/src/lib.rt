@@ -1,7 +1,14 @@
-// The board record, its limits and its planes (01, Load). Definitions: specs/Board, specs/Screen.
+// The board record, its limits and its planes (01, Load), and the answers 1, 3 and 4 to planes that are not fit. Definitions: specs/Board,
+// specs/Planes, specs/Screen. Laws for callers: proofs/Sides, proofs/Planes (what an answer of 0 shows), proofs/Units.
 ghost use mathlib.Core.Path.{_≡_};
+ghost use mathlib.Core.Bool.{not};
+ghost use Prim.Native.Nat.{_^_, _≤_};
+ghost use lib.ListN.{length, take};
+ghost use Rattle.lists.specs.Picture.{bit};
+ghost use Rattle.binary32.specs.Binary32.{unit};
 ghost use Rattle.board.specs.Board as Spec;
 ghost use Rattle.board.specs.Board.{LimitsAre};
+ghost use Rattle.board.specs.Planes.{allUnits, planesAnswer};
 ghost use Rattle.board.specs.Screen.{channelOf};
 
 // The board: its sides, its corner, the offset of its first line, its counts of rows and columns, and its pitches.
@@ -17,6 +24,21 @@ pub struct Board {
     pub c: usize,
     pub pixelr: f32,
     pub pixelc: f32,
+}
+
+// Rows r_1 to r_2 and columns c_1 to c_2 of a picture.
+pub struct Bounds {
+    pub r_1: usize,
+    pub r_2: usize,
+    pub c_1: usize,
+    pub c_2: usize,
+}
+
+// The cells along one axis: the offset of the first line from the corner, how many there are, and their pitch.
+pub struct Spacing {
+    pub offset: usize,
+    pub count: usize,
+    pub pitch: f32,
 }
 
 impl Board {
@@ -50,6 +72,34 @@ impl Board {
             pixelc: 0.0,
         }
     }
+
+    // The record with other sides.
+    pub fn resized(self, height: usize, width: usize) -> Self
+        ensures { λ r. ⌜ r ≡ Spec.resized self height width ⌝ }
+    {
+        let mut out = self;
+        out.height = height;
+        out.width = width;
+        out
+    }
+
+    // The record with what was read: the corner, and the cells of both axes. The sides stay.
+    pub fn with_reading(self, bounds: Bounds, rows: Spacing, columns: Spacing) -> Self
+        ensures { λ r. ⌜ r ≡ Spec.withReading self bounds rows columns ⌝ }
+    {
+        Board {
+            height: self.height,
+            width: self.width,
+            r_1: bounds.r_1,
+            c_1: bounds.c_1,
+            r0: rows.offset,
+            c0: columns.offset,
+            r: rows.count,
+            c: columns.count,
+            pixelr: rows.pitch,
+            pixelc: columns.pitch,
+        }
+    }
 }
 
 fn outside(least: usize, side: usize) -> bool
@@ -69,6 +119,44 @@ pub fn sides_outside(least: usize, height: usize, width: usize) -> bool
         return true;
     }
     outside(least, width)
+}
+
+// 1 for a value that is no unit.
+fn bad(x: f32) -> u32
+    ensures { λ r. ⌜ r ≡ bit (not (unit x)) ⌝ }
+{
+    if binary32::unit(x) { 0 } else { 1 }
+}
+
+// Whether the first n values are units. Counting without an early exit keeps four values to a register.
+pub fn all_units(planes: &[f32], n: usize) -> bool
+    requires { ⌜ (n ≤ length (now planes)) × (n ≤ 2 ^ 26) ⌝ }
+    ensures { λ r. ⌜ r ≡ allUnits (take n (now (planes .entry))) ⌝ }
+{
+    let mut count: u32 = 0;
+    for k in 0..n {
+        count = count + bad(planes[k]);
+    }
+    count == 0
+}
+
+// The answer to planes of these sides, 1, 3, 4 or 0. `short` tells whether another slice is short; with sides outside the limits it is not looked at.
+pub fn planes_answer(least: usize, height: usize, width: usize, planes: &[f32], short: bool) -> u32
+    ensures { λ r. ⌜ r ≡ planesAnswer least height width (now (planes .entry)) short ⌝ }
+{
+    if sides_outside(least, height, width) {
+        return 1;
+    }
+    if planes.len() < 3 * (height * width) {
+        return 3;
+    }
+    if short {
+        return 3;
+    }
+    if all_units(planes, 3 * (height * width)) {
+        return 0;
+    }
+    4
 }
 
 // Whether plane k of these sides stands among `len` values.

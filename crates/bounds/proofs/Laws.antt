@@ -4,7 +4,7 @@ use mathlib.Core.Bool.{Bool}
 use native.Mathlib.Omega.{arith}
 use Rattle.bounds.specs.declared.Beside.{Beside}
 use Rattle.bounds.specs.declared.Beside.the-variants.{Ahead, Before}
-use Rattle.bounds.specs.declared.Bounds.{Bounds}
+use Rattle.board.specs.declared.Bounds.{Bounds}
 use Rattle.bounds.specs.declared.Way.the-variants.{Near, Far}
 use Rattle.lists.specs.Picture.{flip}
 use Rattle.bounds.specs.Bounds.{boundsOf, widen, Within}

@@ -3,7 +3,7 @@ use Prim.Native.Nat.{ℕ, _<_}
 use mathlib.Core.Bool.{Bool}
 use Rattle.lists.specs.Picture.{flip}
 use Rattle.bounds.specs.declared.Beside.the-variants.{Ahead, Before}
-use Rattle.bounds.specs.declared.Bounds.{Bounds}
+use Rattle.board.specs.declared.Bounds.{Bounds}
 use Rattle.bounds.specs.declared.Way.the-variants.{Near, Far}
 use Rattle.bounds.specs.Scan.{bound}
 use Rattle.bounds.specs.Widen.{widened}

@@ -11,6 +11,7 @@ ghost use Rattle.bounds.specs.Scan as Scan;
 ghost use Rattle.bounds.specs.Scan.{skips, move, place, bound};
 ghost use Rattle.bounds.specs.View.{seen, low, high, Lies, columnsOf, rowsOf};
 ghost use Rattle.bounds.specs.Widen.{second, pair, sumAt, lowered, widened};
+use board::Bounds;
 
 // The way that a scan goes: towards place 0, or towards the last place.
 pub enum Way {
@@ -28,14 +29,6 @@ enum Move {
 enum Beside {
     Ahead,
     Before,
-}
-
-// Rows r_1 to r_2 and columns c_1 to c_2.
-pub struct Bounds {
-    pub r_1: usize,
-    pub r_2: usize,
-    pub c_1: usize,
-    pub c_2: usize,
 }
 
 // A picture in the edge bytes, seen along one way: `across` rows and `along` columns, with the point in row p and column q at p * down + q * right.

@@ -7,7 +7,7 @@ use lib.Dec.{eqb}
 use lib.Ieee.{Float, binary32, ofBits}
 use lib.ListN.{length}
 use Rattle.lists.specs.Tab.{tabFrom, tab}
-use Rattle.bounds.specs.declared.Bounds.{Bounds}
+use Rattle.board.specs.declared.Bounds.{Bounds}
 use Rattle.bounds.specs.Bounds.{boundsOf}
 use Rattle.strips.specs.Strip.{at, score}
 use Rattle.lines.specs.Lines.{linesOf}

@@ -14,7 +14,8 @@ use Rattle.lists.proofs.Fill.{getD-tab, length-tabFrom}
 use Rattle.lists.proofs.Picture.{bit-le}
 use Rattle.binary32.proofs.Plain.{plain-bits}
 use Rattle.board.specs.Board.{leastPlaneSide, sidesOutside}
-use Rattle.gradient.specs.Gradient.{gradients, allUnits}
+use Rattle.board.specs.Planes.{allUnits}
+use Rattle.gradient.specs.Gradient.{gradients}
 use Rattle.gradient.proofs.Laws.{length-gradients, gradients-plain}
 use Rattle.edges.specs.Edges.{threshold, marks, edges, AllPlain}
 

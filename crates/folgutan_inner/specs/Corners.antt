@@ -1,5 +1,5 @@
 -- The bounds that C hands over.
-use Rattle.bounds.specs.declared.Bounds.{Bounds}
+use Rattle.board.specs.declared.Bounds.{Bounds}
 use Rattle.folgutan_inner.specs.declared.Corners.{Corners}
 
 abbrev pub boundsIn : Corners → Bounds

@@ -5,7 +5,8 @@ ghost use Prim.Native.Nat.{_+_, _-_, _*_};
 ghost use lib.ListN.{take, drop};
 ghost use Rattle.lists.specs.Picture.{points};
 ghost use Rattle.board.specs.Board.{leastPlaneSide, sidesOutside};
-ghost use Rattle.gradient.specs.Gradient.{gradients, allUnits};
+ghost use Rattle.board.specs.Planes.{allUnits};
+ghost use Rattle.gradient.specs.Gradient.{gradients};
 ghost use Rattle.edges.specs.Edges.{marks, threshold, AllPlain};
 ghost use Rattle.narrow.specs.Narrow.{UnitPlanes};
 ghost use Rattle.narrow.specs.Narrow as Narrow;
@@ -24,7 +25,7 @@ ghost use lib.ListN.{length};
 ghost use Rattle.binary32.specs.Binary32 as Binary32;
 ghost use Rattle.rank.specs.Rank.{countAtMost, self, entry};
 use board::Board;
-use bounds::Bounds;
+use board::Bounds;
 
 // The bounds as C has them.
 #[repr(C)]
@@ -77,7 +78,7 @@ pub extern "C" fn folgutan_inner_all_units(planes: &[f32], n: usize) -> bool
     requires { ⌜ (n ≤ length (now planes)) × (n ≤ 2 ^ 26) ⌝ }
     ensures { λ r. ⌜ r ≡ allUnits (take n (now (planes .entry))) ⌝ }
 {
-    gradient::all_units(planes, n)
+    board::all_units(planes, n)
 }
 
 #[no_mangle]

@@ -10,8 +10,9 @@ use lib.Dec.{ltb}
 use lib.Ieee.{Float}
 use lib.ListN.{length, take, drop}
 use Rattle.board.specs.Board.{leastPlaneSide, sidesOutside}
-use Rattle.board.proofs.Sides.{neither, inside}
-use Rattle.gradient.specs.Gradient.{gradients, allUnits, short, gradientAnswer, gradientOut, GradientGives}
+use Rattle.board.proofs.Sides.{neither, sides-in}
+use Rattle.board.specs.Planes.{allUnits}
+use Rattle.gradient.specs.Gradient.{gradients, short, gradientAnswer, gradientOut, GradientGives}
 
 -- refusal 1 or 3, or 0
 abbrev pub fitOf : Bool → Bool → ℕ
@@ -47,7 +48,7 @@ fits h w len room e =
       long = n .1;
       planes = ltb-false _ _ (l .0);
       output = ltb-false _ _ (l .1);
-      area = inside leastPlaneSide h w (n .0) .area;
+      area = sides-in leastPlaneSide h w (n .0) .area;
     }
 
 module _ (h w : ℕ) (p out : List Float) where

@@ -13,8 +13,9 @@ use Rattle.binary32.specs.Binary32.{magnitude}
 use Rattle.binary32.proofs.Plain.{Plain, plain-of, plain-magnitude, plain-larger}
 use Rattle.board.specs.Board.{leastPlaneSide, sidesOutside}
 use Rattle.board.specs.Screen.{view}
-use Rattle.board.proofs.Sides.{inside}
-use Rattle.gradient.specs.Gradient.{rowSum, steeper, gradientAt, gradients, square, allUnits, UnitsTo}
+use Rattle.board.proofs.Sides.{sides-in}
+use Rattle.board.specs.Planes.{allUnits}
+use Rattle.gradient.specs.Gradient.{rowSum, steeper, gradientAt, gradients, square, UnitsTo}
 use Rattle.gradient.proofs.Squares.{Place, place, square-number, steeper-is, steepest-is, gradient-at}
 use Rattle.gradient.proofs.Units.{units-to}
 
@@ -43,6 +44,6 @@ module _ (p : List Float) where
 
     pub gradients-plain : (k : ℕ) → sidesOutside leastPlaneSide h w ≡ false → k < (h - 2) * (w - 2) → Plain (getD (gradients h w p) k nan)
     gradients-plain k s b =
-        let z : 0 < w - 2 = omega (arith, inside leastPlaneSide h w s .low-w) in
+        let z : 0 < w - 2 = omega (arith, sides-in leastPlaneSide h w s .low-w) in
         rw (getD-tab ((h - 2) * (w - 2)) k _ nan b)
         (point-plain (k / (w - 2)) (k % (w - 2)) (place h w _ _ s (div-lt-iff-lt-mul z .1 b) (mod-lt k z)))

@@ -13,7 +13,7 @@ use Rattle.binary32.specs.Binary32.{unit, magnitude, larger}
 use Rattle.binary32.proofs.Numbers.{Number, add-number, sub-number, finite-number, neg-finite, unit-finite}
 use Rattle.board.specs.Board.{leastPlaneSide, sidesOutside}
 use Rattle.board.specs.Screen.{view}
-use Rattle.board.proofs.Sides.{inside}
+use Rattle.board.proofs.Sides.{sides-in}
 use Rattle.gradient.specs.Gradient.{difference, rowSum, steeper, gradientAt, square, UnitsTo}
 
 -- ---- where a square stands
@@ -87,7 +87,7 @@ pub record Place (h w i j : ℕ) : Type 0 where
 pub place : (h w i j : ℕ) → sidesOutside leastPlaneSide h w ≡ false → i < h - 2 → j < w - 2 → Place h w i j
 place h w i j s a b =
     let d : (i + 2) * w + (j + 2) < h * w = digits-lt (omega arith) (omega arith) in
-    record { square-in = omega (arith, d, add-mul i 2 w); point-in = digits-lt a b; area = inside leastPlaneSide h w s .area }
+    record { square-in = omega (arith, d, add-mul i 2 w); point-in = digits-lt a b; area = sides-in leastPlaneSide h w s .area }
 
 -- ---- units give numbers
 

@@ -1,59 +1,14 @@
--- Lists whose first n values are units: what it says of one value, and how a count of the others tells it. Assumes nothing.
-use Prim.Native.Nat.{ℕ, zero, suc, _+_, _≤_, _<_}
-use mathlib.Core.Path.{_≡_, refl, _∙_}
-use mathlib.Core.Bool.{Bool, true, false, not, _&&_}
-use mathlib.Core.List.{List, [], _∷_, _++_}
-use native.Mathlib.Nat.{add-zero}
-use native.Mathlib.Numerals.{add-one}
+-- Lists whose first n values are units: those up to a place below n. Assumes nothing.
+use Prim.Native.Nat.{ℕ, _≤_, _<_}
+use mathlib.Core.Path.{_≡_}
+use mathlib.Core.Bool.{true}
+use mathlib.Core.List.{List}
 use native.Mathlib.Omega.{arith}
-use borrow.Author.Tests.{ne-eqb}
-use lib.Dec.{eqb}
-use lib.Ieee.{Float, nan}
-use lib.ListN.{length, getD, take}
-use lib.Seq.{getD-take, length-take-le, take-suc}
-use Rattle.lists.specs.Picture.{bit}
-use Rattle.binary32.specs.Binary32.{unit}
-use Rattle.board.proofs.Sides.{both}
-use Rattle.gradient.specs.Gradient.{allUnits, UnitsTo}
+use lib.Ieee.{Float}
+use lib.ListN.{length, take}
+use Rattle.board.specs.Planes.{allUnits}
+use Rattle.board.proofs.Units.{unit-below}
+use Rattle.gradient.specs.Gradient.{UnitsTo}
 
-units-at : (l : List Float) (k : ℕ) → allUnits l ≡ true → k < length l → unit (getD l k nan) ≡ true
-units-at [] k e h = absurd (omega arith)
-units-at (x ∷ l) zero e h = both (unit x) (allUnits l) e .0
-units-at (x ∷ l) (suc k) e h = units-at l k (both (unit x) (allUnits l) e .1) (omega arith)
-
--- the first n values are units, so those up to a place below n are
 pub units-to : (p : List Float) (n last : ℕ) → n ≤ length p → allUnits (take n p) ≡ true → last < n → UnitsTo p last
-units-to p n last l e h k b =
-    let k< : k < n = omega arith in
-    rw (getD-take n p k nan k<) at (units-at (take n p) k e (omega (arith, length-take-le n p l)))
-
--- ---- counting
-
-units-append : (l : List Float) (x : Float) → allUnits (l ++ (x ∷ [])) ≡ (allUnits l && unit x)
-units-append [] x = at (unit x)
-  where
-    at : (b : Bool) → (b && true) ≡ b
-    at true = refl
-    at false = refl
-units-append (y ∷ l) x = rw (units-append l x) (at (unit y))
-  where
-    at : (b : Bool) → (b && (allUnits l && unit x)) ≡ (b && allUnits l && unit x)
-    at true = refl
-    at false = refl
-
-count-more : (n : ℕ) (b : Bool) → eqb (n + bit (not b)) 0 ≡ (eqb n 0 && b)
-count-more n true = rw (add-zero n) (at (eqb n 0))
-  where
-    at : (b : Bool) → b ≡ (b && true)
-    at true = refl
-    at false = refl
-count-more n false = ne-eqb (n + 1) 0 (λ e. omega arith) ∙ at (eqb n 0)
-  where
-    at : (b : Bool) → false ≡ (b && false)
-    at true = refl
-    at false = refl
-
--- no value is bad so far, and one value more
-pub units-more : (p : List Float) (k n : ℕ) → k < length p → eqb n 0 ≡ allUnits (take k p)
-    → eqb (n + bit (not (unit (getD p k nan)))) 0 ≡ allUnits (take (k + 1) p)
-units-more p k n h e = rw (add-one k, take-suc p k nan h, units-append (take k p) (getD p k nan), count-more n (unit (getD p k nan)), e)
+units-to p n last l e h k b = unit-below p n k l e (omega arith)

@@ -1,7 +1,7 @@
 -- 01, "Gradient and threshold", first paragraph, and the gradient's refusals. All sums are binary32, rounded one operation at a time.
 use Prim.Native.Nat.{ℕ, _+_, _-_, _*_, _≤_}
-use mathlib.Core.Bool.{Bool, true, not, cond, _&&_, _||_}
-use mathlib.Core.List.{List, [], _∷_, _++_}
+use mathlib.Core.Bool.{Bool, true, not, cond, _||_}
+use mathlib.Core.List.{List, _++_}
 use mathlib.Core.Path.{_≡_}
 use lib.Dec.{eqb, ltb}
 use lib.Ieee.{Float, nan, binary32, neg, add, sub, ofBits}
@@ -10,6 +10,7 @@ use Rattle.lists.specs.Tab.{grid}
 use Rattle.lists.specs.Picture.{flip}
 use Rattle.binary32.specs.Binary32.{unit, magnitude, larger}
 use Rattle.board.specs.Board.{leastPlaneSide, sidesOutside}
+use Rattle.board.specs.Planes.{allUnits}
 use Rattle.board.specs.Screen.{view}
 
 -- −a − b − c + d + e + f, left to right
@@ -40,11 +41,6 @@ abbrev pub gradients : ℕ → ℕ → List Float → List Float
 gradients h w planes = grid (h - 2) (w - 2) (gradientAt (view h w planes .px))
 
 -- ---- the call, and its refusals
-
--- every value is a unit (refusal 4)
-abbrev pub allUnits : List Float → Bool
-allUnits [] = true
-allUnits (x ∷ l) = unit x && allUnits l
 
 -- planes or output short (refusal 3), for `len` plane values and `room` entries of output
 abbrev pub short : ℕ → ℕ → ℕ → ℕ → Bool

@@ -1,15 +1,15 @@
 // Gradient of three planes: the largest of six magnitudes at each point (01, "Gradient and threshold"). The call refuses 1, 3 and 4.
 // Definitions: specs/Gradient. Laws for callers: proofs/Laws.
 ghost use mathlib.Core.Path.{_≡_};
-ghost use mathlib.Core.Bool.{true, false, not, cond};
+ghost use mathlib.Core.Bool.{true, false, cond};
 ghost use mathlib.Core.List.{_++_};
-ghost use Prim.Native.Nat.{_+_, _-_, _*_, _^_, _≤_, _<_};
+ghost use Prim.Native.Nat.{_+_, _-_, _*_, _≤_, _<_};
 ghost use lib.ListN.{length, take, drop};
-ghost use Rattle.lists.specs.Picture.{bit};
-ghost use Rattle.binary32.specs.Binary32.{unit, magnitude};
+ghost use Rattle.binary32.specs.Binary32.{magnitude};
 ghost use Rattle.board.specs.Board.{leastPlaneSide, sidesOutside};
 ghost use Rattle.gradient.specs.Gradient as Spec;
-ghost use Rattle.gradient.specs.Gradient.{square, rowSum, gradientAt, gradients, short, allUnits, UnitsTo, GradientGives};
+ghost use Rattle.board.specs.Planes.{allUnits};
+ghost use Rattle.gradient.specs.Gradient.{square, rowSum, gradientAt, gradients, short, UnitsTo, GradientGives};
 use board::Board;
 
 fn difference(a: f32, b: f32, c: f32, d: f32, e: f32, f: f32) -> f32
@@ -73,25 +73,6 @@ pub fn gradient_of(height: usize, width: usize, planes: &[f32], out: &mut [f32])
     }
 }
 
-// 1 for a value that is no unit.
-fn bad(x: f32) -> u32
-    ensures { λ r. ⌜ r ≡ bit (not (unit x)) ⌝ }
-{
-    if binary32::unit(x) { 0 } else { 1 }
-}
-
-// Whether the first n values are units. Counting without an early exit keeps four values to a register.
-pub fn all_units(planes: &[f32], n: usize) -> bool
-    requires { ⌜ (n ≤ length (now planes)) × (n ≤ 2 ^ 26) ⌝ }
-    ensures { λ r. ⌜ r ≡ allUnits (take n (now (planes .entry))) ⌝ }
-{
-    let mut count: u32 = 0;
-    for k in 0..n {
-        count = count + bad(planes[k]);
-    }
-    count == 0
-}
-
 // Refusal 1 or 3, or 0: for `len` plane values and `room` entries of output.
 fn fit(height: usize, width: usize, len: usize, room: usize) -> u32
     ensures { λ r. ⌜ r ≡ cond (sidesOutside leastPlaneSide height width) 1 (cond (short height width len room) 3 0) ⌝ }
@@ -116,7 +97,7 @@ pub fn get_gradient(height: usize, width: usize, planes: &[f32], out: &mut [f32]
     if refusal != 0 {
         return refusal;
     }
-    if all_units(planes, 3 * (height * width)) {
+    if board::all_units(planes, 3 * (height * width)) {
         gradient_of(height, width, planes, out);
         return 0;
     }

@@ -1,4 +1,5 @@
 pub mod Count
 pub mod Fill
+pub mod Front
 pub mod Picture
 pub mod Tab

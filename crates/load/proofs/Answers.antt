@@ -7,12 +7,13 @@ use lib.Dec.{ltb}
 use lib.Ieee.{Float}
 use lib.ListN.{length}
 use Rattle.board.specs.Board.{leastSide, sidesOutside, blank}
-use Rattle.board.proofs.Sides.{Inside, inside, passed}
+use Rattle.board.specs.Planes.{SidesIn}
+use Rattle.board.proofs.Sides.{sides-in, passed}
 use Rattle.load.specs.declared.Loaded.{Loaded}
 use Rattle.load.specs.Load.{loadAnswer, LoadGives}
 
 pub record Fit (h w pixels planes : ℕ) : Type 0 where
-  pub sides : Inside leastSide h w
+  pub sides : SidesIn leastSide h w
   pub pixels-in : 4 * (h * w) ≤ pixels
   pub planes-in : 3 * (h * w) ≤ planes
 
@@ -22,7 +23,7 @@ fit h w pixels planes e =
     let a = passed (sidesOutside leastSide h w) 0 _ e in
     let b = passed (ltb pixels (4 * (h * w))) 1 _ (a .1) in
     let c = passed (ltb planes (3 * (h * w))) 2 _ (b .1) in
-    record { sides = inside leastSide h w (a .0); pixels-in = ltb-false _ _ (b .0); planes-in = ltb-false _ _ (c .0) }
+    record { sides = sides-in leastSide h w (a .0); pixels-in = ltb-false _ _ (b .0); planes-in = ltb-false _ _ (c .0) }
 
 pub refuses : (top : Float) (h w : ℕ) (pixels : List ℕ) (planes : List Float) (r : Loaded) → r .answer ≡ loadAnswer h w (length pixels) (length planes) → (r .answer ≡ 0 → ⊥) → r .board ≡ blank → LoadGives top h w pixels planes r planes
 refuses top h w pixels planes r a n b =

@@ -8,8 +8,9 @@ use lib.Dec.{ltb}
 use lib.Ieee.{Float}
 use lib.ListN.{length, take}
 use Rattle.board.specs.Board.{leastSide, sidesOutside}
-use Rattle.board.proofs.Sides.{Inside, inside, neither, passed}
-use Rattle.gradient.specs.Gradient.{allUnits}
+use Rattle.board.specs.Planes.{SidesIn}
+use Rattle.board.proofs.Sides.{sides-in, neither, passed}
+use Rattle.board.specs.Planes.{allUnits}
 use Rattle.locate.specs.Locate.{slicesShort, fitAnswer}
 
 -- no lent slice is short
@@ -40,7 +41,7 @@ room h w planes edges scores floats bytes words e =
 
 -- all is fit for the work
 pub record Fit (h w : ℕ) (planes : List Float) (edges scores floats bytes words : ℕ) : Type 0 where
-  pub sides : Inside leastSide h w
+  pub sides : SidesIn leastSide h w
   pub slices : Room h w (length planes) edges scores floats bytes words
   pub units : allUnits (take (3 * (h * w)) planes) ≡ true
 
@@ -50,7 +51,7 @@ fit h w planes edges scores floats bytes words e =
     let a = passed (sidesOutside leastSide h w) 0 _ e in
     let b = passed (slicesShort h w (length planes) edges scores floats bytes words) 2 _ (a .1) in
     let c = passed (not (allUnits (take (3 * (h * w)) planes))) 3 _ (b .1) in
-    record { sides = inside leastSide h w (a .0); slices = room h w (length planes) edges scores floats bytes words (b .0); units = not-false _ (c .0) }
+    record { sides = sides-in leastSide h w (a .0); slices = room h w (length planes) edges scores floats bytes words (b .0); units = not-false _ (c .0) }
 
 -- the checks pass with other scratch too, if it is long enough
 pub fit-with : (h w : ℕ) (planes : List Float) (edges scores floats bytes words : ℕ) {floats' bytes' words' : ℕ} → fitAnswer h w planes edges scores floats bytes words ≡ 0

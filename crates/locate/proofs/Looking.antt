@@ -7,15 +7,16 @@ use lib.Ieee.{Float}
 use lib.ListN.{length, take, length-append}
 use lib.Seq.{take-at}
 use Rattle.board.specs.Board.{leastPlaneSide}
-use Rattle.board.proofs.Sides.{Inside, inside}
+use Rattle.board.specs.Planes.{SidesIn}
+use Rattle.board.proofs.Sides.{sides-in}
 use Rattle.gradient.specs.Gradient.{gradients}
 use Rattle.gradient.proofs.Laws.{length-gradients}
 use Rattle.edges.specs.Edges.{AllPlain, threshold, marks, edges}
 use Rattle.edges.proofs.Laws.{all-plain, edges-of-gradients, length-edges}
 use Rattle.locate.specs.Steps.{Fit}
 
-pub inside-of : {h w : ℕ} {planes : List Float} → Fit h w planes → Inside leastPlaneSide h w
-inside-of {h} {w} f = inside leastPlaneSide h w (f .sides)
+pub inside-of : {h w : ℕ} {planes : List Float} → Fit h w planes → SidesIn leastPlaneSide h w
+inside-of {h} {w} f = sides-in leastPlaneSide h w (f .sides)
 
 front-in : {A : Type 0} (front rest whole : List A) (n : ℕ) → length front ≡ n → whole ≡ front ++ rest → n ≤ length whole
 front-in front rest whole n l e = omega (arith, l, ap length e, length-append front rest)

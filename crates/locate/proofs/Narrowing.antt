@@ -13,7 +13,7 @@ use Rattle.board.specs.Board.{leastPlaneSide, outside, sidesOutside}
 use Rattle.board.proofs.Sides.{neither}
 use Rattle.narrow.specs.Narrow.{narrow, UnitPlanes}
 use Rattle.narrow.proofs.Laws.{smaller, narrow-length, narrow-units}
-use Rattle.bounds.specs.declared.Bounds.{Bounds}
+use Rattle.board.specs.declared.Bounds.{Bounds}
 use Rattle.bounds.proofs.Laws.{around}
 use Rattle.locate.specs.Search.{pictureOf, scanOf, thin, small, searched, lastOf}
 use Rattle.locate.specs.Steps.{Fit, Narrows}

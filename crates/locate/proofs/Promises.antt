@@ -11,7 +11,7 @@ use lib.ListN.{length, getD, drop, List·getD-append}
 use lib.Seq.{getD-append-add}
 use Rattle.lists.specs.Picture.{flip}
 use Rattle.board.specs.declared.Board.{Board}
-use Rattle.bounds.specs.declared.Bounds.{Bounds}
+use Rattle.board.specs.declared.Bounds.{Bounds}
 use Rattle.bounds.proofs.Laws.{Wide}
 use Rattle.strips.specs.Strip.{scores}
 use Rattle.strips.proofs.Scores.{length-scores}

@@ -7,7 +7,7 @@ use native.Mathlib.Omega.{arith}
 use lib.ListN.{length, take, drop}
 use lib.Seq.{take-at, drop-at}
 use Rattle.lists.specs.Picture.{flip}
-use Rattle.bounds.specs.declared.Bounds.{Bounds}
+use Rattle.board.specs.declared.Bounds.{Bounds}
 use Rattle.strips.specs.Strip.{scores, columnScores, rowScores}
 use Rattle.strips.proofs.Scores.{length-scores, scores-most}
 use Rattle.lines.specs.Lines.{InLimits}

@@ -14,7 +14,7 @@ use Rattle.board.specs.Board.{leastPlaneSide}
 use Rattle.board.proofs.Sides.{neither}
 use Rattle.edges.specs.Edges.{edges}
 use Rattle.edges.proofs.Laws.{edge-le}
-use Rattle.bounds.specs.declared.Bounds.{Bounds}
+use Rattle.board.specs.declared.Bounds.{Bounds}
 use Rattle.bounds.specs.Bounds.{widen}
 use Rattle.bounds.proofs.Laws as Bounds
 use Rattle.locate.specs.declared.Located.{Located}

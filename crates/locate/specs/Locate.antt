@@ -8,9 +8,9 @@ use lib.Ieee.{Float}
 use lib.ListN.{length, take, drop}
 use Rattle.board.specs.declared.Board.{Board}
 use Rattle.board.specs.Board.{leastSide, sidesOutside}
-use Rattle.gradient.specs.Gradient.{allUnits}
+use Rattle.board.specs.Planes.{allUnits}
 use Rattle.edges.specs.Edges.{edges}
-use Rattle.bounds.specs.declared.Bounds.{Bounds}
+use Rattle.board.specs.declared.Bounds.{Bounds}
 use Rattle.bounds.specs.Bounds.{widen}
 use Rattle.strips.specs.Strip.{columnScores, rowScores}
 use Rattle.reading.specs.declared.Quarters.{Quarters}

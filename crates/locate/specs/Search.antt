@@ -7,7 +7,7 @@ use lib.Ieee.{Float}
 use Rattle.lists.specs.Picture.{points}
 use Rattle.edges.specs.Edges.{edges}
 use Rattle.narrow.specs.Narrow.{narrow}
-use Rattle.bounds.specs.declared.Bounds.{Bounds}
+use Rattle.board.specs.declared.Bounds.{Bounds}
 use Rattle.bounds.specs.Bounds.{boundsOf}
 
 -- the edge picture of the planes of an h by w screen

@@ -7,9 +7,9 @@ use lib.Ieee.{Float}
 use lib.ListN.{length, getD, take, drop}
 use Rattle.lists.specs.Picture.{points}
 use Rattle.board.specs.Board.{leastPlaneSide, sidesOutside}
-use Rattle.gradient.specs.Gradient.{allUnits}
+use Rattle.board.specs.Planes.{allUnits}
 use Rattle.edges.specs.Edges.{edges}
-use Rattle.bounds.specs.declared.Bounds.{Bounds}
+use Rattle.board.specs.declared.Bounds.{Bounds}
 use Rattle.bounds.specs.Bounds.{Within, widen}
 use Rattle.board.specs.declared.Board.{Board}
 use Rattle.strips.specs.Strip.{columnScores, rowScores}

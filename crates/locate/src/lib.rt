@@ -14,7 +14,7 @@ ghost use Rattle.locate.specs.Locate.{fitAnswer, LocateGives, ScratchKep
 ghost use Rattle.locate.specs.Promise.{Promise};
 ghost use Rattle.locate.specs.Steps.{Fit, Looks, Narrows, Short, ReadsOn, Leads, ReadsFrom};
 use board::Board;
-use bounds::Bounds;
+use board::Bounds;
 use reading::Quarters;
 
 // A record and the answer, both pitches in quarters, both counts of votes, and how often the screen was narrowed.
@@ -98,7 +98,7 @@ fn fit_answer(
     ) {
         return 3;
     }
-    if gradient::all_units(planes, 3 * (height * width)) {
+    if board::all_units(planes, 3 * (height * width)) {
         return 0;
     }
     4

@@ -12,7 +12,7 @@ use Rattle.lists.specs.Tab.{tabFrom, grid}
 use Rattle.lists.proofs.Fill.{length-tabFrom}
 use Rattle.rank.proofs.Members.{Each, entry-each}
 use Rattle.board.specs.Screen.{Screen, packed, view}
-use Rattle.gradient.specs.Gradient.{allUnits}
+use Rattle.board.specs.Planes.{allUnits}
 use Rattle.narrow.specs.Narrow.{UnitPlanes, block, median, narrowed, narrow}
 use Rattle.narrow.proofs.AllUnits.{Small, each-units}
 use Rattle.narrow.proofs.Packed.{length-packed}

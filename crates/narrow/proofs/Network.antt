@@ -21,7 +21,7 @@ use Rattle.board.proofs.Sides.{both}
 use Rattle.binary32.specs.Binary32.{larger, lesser}
 use Rattle.binary32.proofs.Values.{T-of}
 use Rattle.binary32.proofs.Units.{IsUnit, lesser-bits, larger-bits, lesser-unit, larger-unit}
-use Rattle.gradient.specs.Gradient.{allUnits}
+use Rattle.board.specs.Planes.{allUnits}
 use Rattle.narrow.proofs.AllUnits.{units-each}
 use Rattle.narrow.specs.Narrow.{ranked}
 

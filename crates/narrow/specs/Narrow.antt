@@ -8,7 +8,7 @@ use lib.ListN.{length, take, drop, replicate, getD}
 use Rattle.lists.specs.Tab.{grid}
 use Rattle.rank.specs.Rank.{entry}
 use Rattle.board.specs.Screen.{Screen, packed, view}
-use Rattle.gradient.specs.Gradient.{allUnits}
+use Rattle.board.specs.Planes.{allUnits}
 use Rattle.narrow.specs.declared.Rising.{Rising}
 
 -- entry j of values sorted rising

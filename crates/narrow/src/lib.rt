@@ -8,7 +8,7 @@ ghost use lib.Ieee.{binary32, ofBits};
 ghost use lib.ListN.{length, take, drop, replicate};
 ghost use Rattle.lists.specs.Tab.{tab};
 ghost use Rattle.board.specs.Screen.{view, packed};
-ghost use Rattle.gradient.specs.Gradient.{allUnits};
+ghost use Rattle.board.specs.Planes.{allUnits};
 ghost use Rattle.narrow.specs.Narrow as Spec;
 ghost use Rattle.narrow.specs.Narrow.{UnitPlanes, ranked, neighbours, risingAt, median, narrowed};
 

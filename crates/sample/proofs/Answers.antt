@@ -12,7 +12,7 @@ use lib.ListN.{length, take, drop}
 use Rattle.board.specs.declared.Board.{Board}
 use Rattle.board.specs.Board.{leastPlaneSide, mostSize, sidesOutside}
 use Rattle.board.proofs.Sides.{both, neither, passed}
-use Rattle.gradient.specs.Gradient.{allUnits}
+use Rattle.board.specs.Planes.{allUnits}
 use Rattle.sample.specs.Copy.{AxisIn}
 use Rattle.sample.specs.Sample.{mostNumber, rowAt, columnAt, pitchOutside, allBelow, numbersAbove, cell, cellAnswer, sampleAnswer, SampleGives}
 

@@ -12,7 +12,7 @@ use Rattle.lists.specs.Tab.{grid}
 use Rattle.board.specs.declared.Board.{Board}
 use Rattle.board.specs.Board.{leastPlaneSide, mostSize, sidesOutside}
 use Rattle.board.specs.Screen.{view}
-use Rattle.gradient.specs.Gradient.{allUnits}
+use Rattle.board.specs.Planes.{allUnits}
 
 abbrev pub float : ℕ → Float
 float n = ofInt binary32 (pos n)

@@ -210,7 +210,7 @@ pub fn extra_save_cell(
     if planes.len() < 3 * (b.height * b.width) {
         return 3;
     }
-    if gradient::all_units(planes, 3 * (b.height * b.width)) {
+    if board::all_units(planes, 3 * (b.height * b.width)) {
         return cell_of(b, planes, x, y, size, out);
     }
     4

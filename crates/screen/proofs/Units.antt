@@ -13,7 +13,7 @@ use Rattle.binary32.specs.Binary32.{unit}
 use Rattle.board.specs.Screen.{packed}
 use Rattle.board.proofs.Sides.{both}
 use Rattle.load.specs.Load.{ofByte, level, shown}
-use Rattle.gradient.specs.Gradient.{allUnits}
+use Rattle.board.specs.Planes.{allUnits}
 
 -- the levels of the bytes below n
 abbrev levels : ℕ → Bool

@@ -7,7 +7,7 @@ use mathlib.Core.List.{List}
 use lib.Dec.{eqb}
 use lib.ListN.{length, getD, set}
 use Rattle.lists.specs.Picture.{bit}
-use Rattle.bounds.specs.declared.Bounds.{Bounds}
+use Rattle.board.specs.declared.Bounds.{Bounds}
 use Rattle.strips.specs.declared.Lanes.{Lanes}
 use Rattle.strips.specs.Strip.{Place, at, onward, least, onStrip, score}
 

@@ -5,7 +5,7 @@ use mathlib.Core.List.{List, [], _∷_, _++_, map}
 use lib.Dec.{ltb}
 use Rattle.lists.specs.Tab.{tab}
 use Rattle.lists.specs.Picture.{flip, bit}
-use Rattle.bounds.specs.declared.Bounds.{Bounds}
+use Rattle.board.specs.declared.Bounds.{Bounds}
 use Rattle.strips.specs.Walk.{apart}
 
 -- a scored place: a strip, by its first column, and the target lane

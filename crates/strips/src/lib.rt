@@ -1,6 +1,6 @@
 // Column and row scores (01, "Path scores"). Their promises rest on specs/Strip and specs/Walk. Laws for callers: proofs/Walks, proofs/Scores.
 // A lane's state is 5 and the steps so far, less the least cost: a set point adds 1, a sideways move takes 1 off, and none falls below 1.
-use bounds::Bounds;
+use board::Bounds;
 ghost use mathlib.Core.Path.{_≡_};
 ghost use mathlib.Core.Bool.{Bool};
 ghost use mathlib.Core.List.{_++_};

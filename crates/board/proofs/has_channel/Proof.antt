@@ -2,7 +2,8 @@ use mathlib.Core.Path.{sym, _∙_}
 use native.Mathlib.Omega.{arith}
 use borrow.Author.Tests.{le-leb, lt-leb}
 use Rattle.board.specs.Board.{leastPlaneSide, hasChannel}
-use Rattle.board.proofs.Sides.{Inside, inside}
+use Rattle.board.specs.Planes.{SidesIn}
+use Rattle.board.proofs.Sides.{sides-in}
 use borrow.Author.Needs.{needs}
 use Rattle.board.proofs.has_channel.Statement.{statement}
 use Rattle.board.proofs.has_channel.Tie as tie
@@ -19,8 +20,8 @@ unfolding hasChannel
 returns-2 c = rw (le-leb _ _ (c .before .before .if1 .left), sym (c .before .sides-outside .ensures) ∙ c .if2 .taken)
 
 -- the sides are within the limits
-here : (c : tie.Else2) → Inside leastPlaneSide (c .before .before .before .args .height) (c .before .before .before .args .width)
-here c = inside leastPlaneSide _ _ (sym (c .before .sides-outside .ensures) ∙ c .if2 .left)
+here : (c : tie.Else2) → SidesIn leastPlaneSide (c .before .before .before .args .height) (c .before .before .before .args .width)
+here c = sides-in leastPlaneSide _ _ (sym (c .before .sides-outside .ensures) ∙ c .if2 .left)
 
 mul-result : tie.Need-mul-result
 mul-result c = omega (arith, here c .area)

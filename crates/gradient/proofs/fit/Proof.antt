@@ -4,7 +4,8 @@ use mathlib.Core.Bool.{false}
 use native.Mathlib.Omega.{arith}
 use borrow.Author.Tests.{lt-ltb, le-ltb}
 use Rattle.board.specs.Board.{leastPlaneSide, sidesOutside}
-use Rattle.board.proofs.Sides.{Inside, inside}
+use Rattle.board.specs.Planes.{SidesIn}
+use Rattle.board.proofs.Sides.{sides-in}
 use Rattle.gradient.proofs.Answers.{inner-le}
 use borrow.Author.Needs.{needs}
 use Rattle.gradient.proofs.fit.Statement.{statement}
@@ -20,8 +21,8 @@ returns c = rw (sym (c .before .sides-outside .ensures) ∙ c .if1 .taken)
 in-limits : (c : tie.Else1) → sidesOutside leastPlaneSide (c .before .before .args .height) (c .before .before .args .width) ≡ false
 in-limits c = sym (c .before .sides-outside .ensures) ∙ c .if1 .left
 
-here : (c : tie.Else1) → Inside leastPlaneSide (c .before .before .args .height) (c .before .before .args .width)
-here c = inside leastPlaneSide _ _ (in-limits c)
+here : (c : tie.Else1) → SidesIn leastPlaneSide (c .before .before .args .height) (c .before .before .args .width)
+here c = sides-in leastPlaneSide _ _ (in-limits c)
 
 mul-if2 : tie.Need-mul-if2
 mul-if2 c = omega (arith, here c .area)

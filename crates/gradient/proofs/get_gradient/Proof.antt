@@ -5,7 +5,7 @@ use mathlib.Core.Bool.{true}
 use native.Mathlib.Omega.{arith}
 use denote.Ref.{now}
 use lib.ListN.{take, length}
-use Rattle.gradient.specs.Gradient.{allUnits}
+use Rattle.board.specs.Planes.{allUnits}
 use Rattle.gradient.proofs.Answers.{Fit, fits, unfit, no-unit, worked}
 use borrow.Author.Needs.{needs}
 use Rattle.gradient.proofs.get_gradient.Statement.{statement}

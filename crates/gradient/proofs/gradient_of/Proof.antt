@@ -11,7 +11,7 @@ use Rattle.lists.proofs.Extend.{extends-none, extends-more}
 use Rattle.lists.proofs.Grid.{cell, row-whole}
 use Rattle.board.specs.Board.{leastPlaneSide}
 use Rattle.board.specs.Screen.{view}
-use Rattle.board.proofs.Sides.{inside}
+use Rattle.board.proofs.Sides.{sides-in}
 use Rattle.gradient.specs.Gradient.{gradientAt}
 use Rattle.gradient.proofs.Squares.{Place, place, gradient-at}
 use borrow.Author.Needs.{needs}
@@ -37,10 +37,10 @@ here : (c : tie.In-loop2 Inv-loop2 μ-loop2 Inv-loop μ-loop)
 here c = place _ _ _ _ (c .before .before .before .before .before .before .pre .0) (c .before .before .loop-test .taken) (c .loop2-test .taken)
 
 sub-row : tie.Need-sub-row Inv-loop2 μ-loop2 Inv-loop μ-loop
-sub-row c = omega (arith, inside leastPlaneSide _ _ (c .before .before .pre .0) .low-h)
+sub-row c = omega (arith, sides-in leastPlaneSide _ _ (c .before .before .pre .0) .low-h)
 
 sub-column : tie.Need-sub-column Inv-loop2 μ-loop2 Inv-loop μ-loop
-sub-column c = omega (arith, inside leastPlaneSide _ _ (c .before .before .pre .0) .low-w)
+sub-column c = omega (arith, sides-in leastPlaneSide _ _ (c .before .before .pre .0) .low-w)
 
 loop-holds : tie.Need-loop-holds Inv-loop2 μ-loop2 Inv-loop μ-loop
 loop-holds c = (omega arith, rw zero-mul filled-none)

@@ -2,7 +2,8 @@ use mathlib.Core.Path.{sym, _∙_}
 use native.Mathlib.Omega.{arith}
 use borrow.Author.Tests.{lt-ltb, le-ltb}
 use Rattle.board.specs.Board.{leastSide}
-use Rattle.board.proofs.Sides.{Inside, inside}
+use Rattle.board.specs.Planes.{SidesIn}
+use Rattle.board.proofs.Sides.{sides-in}
 use Rattle.load.specs.Load.{loadAnswer}
 use borrow.Author.Needs.{needs}
 use Rattle.load.proofs.load_answer.Statement.{statement}
@@ -16,8 +17,8 @@ unfolding loadAnswer
 returns c = rw (sym (c .before .sides-outside .ensures) ∙ c .if1 .taken)
 
 -- the sides are within the limits
-here : (c : tie.Else1) → Inside leastSide (c .before .before .args .height) (c .before .before .args .width)
-here c = inside leastSide _ _ (sym (c .before .sides-outside .ensures) ∙ c .if1 .left)
+here : (c : tie.Else1) → SidesIn leastSide (c .before .before .args .height) (c .before .before .args .width)
+here c = sides-in leastSide _ _ (sym (c .before .sides-outside .ensures) ∙ c .if1 .left)
 
 mul-n : tie.Need-mul-n
 mul-n c = omega (arith, here c .area)

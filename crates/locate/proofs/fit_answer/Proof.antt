@@ -1,7 +1,8 @@
 use mathlib.Core.Path.{sym, _∙_}
 use native.Mathlib.Omega.{arith}
 use Rattle.board.specs.Board.{leastSide}
-use Rattle.board.proofs.Sides.{Inside, inside}
+use Rattle.board.specs.Planes.{SidesIn}
+use Rattle.board.proofs.Sides.{sides-in}
 use Rattle.locate.specs.Locate.{fitAnswer}
 use Rattle.locate.proofs.Checks.{room}
 use borrow.Author.Needs.{needs}
@@ -16,8 +17,8 @@ unfolding fitAnswer
 returns c = rw (sym (c .before .sides-outside .ensures) ∙ c .if1 .taken)
 
 -- the sides are within the limits
-sides : (c : tie.Else1) → Inside leastSide (c .before .before .before .args .height) (c .before .before .before .args .width)
-sides c = inside leastSide _ _ (sym (c .before .sides-outside .ensures) ∙ c .if1 .left)
+sides : (c : tie.Else1) → SidesIn leastSide (c .before .before .before .args .height) (c .before .before .before .args .width)
+sides c = sides-in leastSide _ _ (sym (c .before .sides-outside .ensures) ∙ c .if1 .left)
 
 slices-short-requires : tie.Need-slices-short-requires
 slices-short-requires c κs = (sides c .high-h, sides c .high-w)

@@ -4,7 +4,8 @@ use mathlib.Core.Bool.{false}
 use native.Mathlib.Omega.{arith}
 use borrow.Author.Tests.{lt-ltb, le-ltb}
 use Rattle.board.specs.Board.{leastPlaneSide, sidesOutside}
-use Rattle.board.proofs.Sides.{Inside, inside}
+use Rattle.board.specs.Planes.{SidesIn}
+use Rattle.board.proofs.Sides.{sides-in}
 use Rattle.sample.specs.Sample.{sampleAnswer}
 use Rattle.sample.proofs.Answers.{refused, handed-on}
 use borrow.Author.Needs.{needs}
@@ -15,8 +16,8 @@ use Rattle.sample.proofs.extra_save_cell.Tie as tie
 fit-sides : (c : tie.Else1) → let b = c .before .before .before .before .args .b in sidesOutside leastPlaneSide (b .height) (b .width) ≡ false
 fit-sides c = sym (c .before .sides-outside .ensures) ∙ c .if1 .left
 
-sides : (c : tie.Else1) → let b = c .before .before .before .before .args .b in Inside leastPlaneSide (b .height) (b .width)
-sides c = inside leastPlaneSide _ _ (fit-sides c)
+sides : (c : tie.Else1) → let b = c .before .before .before .before .args .b in SidesIn leastPlaneSide (b .height) (b .width)
+sides c = sides-in leastPlaneSide _ _ (fit-sides c)
 
 sides-outside-requires : tie.Need-sides-outside-requires
 sides-outside-requires c κs = search needs

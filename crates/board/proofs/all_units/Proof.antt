@@ -1,4 +1,4 @@
--- `gradient::all_units` meets its contract. The invariant: the count is 0 exactly where the values so far are units. What is left of n falls.
+-- `board::all_units` meets its contract. The invariant: the count is 0 exactly where the values so far are units. What is left of n falls.
 use Prim.Native.Nat.{_-_, _≤_}
 use mathlib.Core.Bool.{not}
 use mathlib.Core.Path.{_≡_}
@@ -9,11 +9,11 @@ use lib.ListN.{getD, take}
 use lib.Dec.{eqb}
 use Rattle.lists.proofs.Picture.{bit-le}
 use Rattle.binary32.specs.Binary32.{unit}
-use Rattle.gradient.specs.Gradient.{allUnits}
-use Rattle.gradient.proofs.Units.{units-more}
+use Rattle.board.specs.Planes.{allUnits}
+use Rattle.board.proofs.Units.{units-more}
 use borrow.Author.Needs.{needs}
-use Rattle.gradient.proofs.all_units.Statement.{statement}
-use Rattle.gradient.proofs.all_units.Tie as tie
+use Rattle.board.proofs.all_units.Statement.{statement}
+use Rattle.board.proofs.all_units.Tie as tie
 
 abbrev Inv-loop : tie.InvT-loop
 Inv-loop planes n count₀ k₀ count k = (k ≤ n) × (count ≤ k) × (eqb count 0 ≡ allUnits (take k planes))

@@ -1,8 +1,8 @@
--- `gradient::bad` meets its contract: the test of the value decides.
+-- `board::bad` meets its contract: the test of the value decides.
 use mathlib.Core.Path.{sym, _∙_}
 use borrow.Author.Needs.{needs}
-use Rattle.gradient.proofs.bad.Statement.{statement}
-use Rattle.gradient.proofs.bad.Tie as tie
+use Rattle.board.proofs.bad.Statement.{statement}
+use Rattle.board.proofs.bad.Tie as tie
 
 unit-requires : tie.Need-unit-requires
 unit-requires c κs = search needs

@@ -1,0 +1,74 @@
+-- `board::planes_answer` meets its contract: each way out is the first check that fails, and within the limits no product wraps.
+use mathlib.Core.Path.{_≡_, sym, _∙_}
+use mathlib.Core.Bool.{false}
+use native.Mathlib.Omega.{arith}
+use borrow.Author.Tests.{lt-ltb, le-ltb}
+use Rattle.board.specs.Board.{sidesOutside}
+use Rattle.board.specs.Planes.{planesAnswer, SidesIn}
+use Rattle.board.proofs.Sides.{sides-in}
+use borrow.Author.Needs.{needs}
+use Rattle.board.proofs.planes_answer.Statement.{statement}
+use Rattle.board.proofs.planes_answer.Tie as tie
+
+sides-outside-requires : tie.Need-sides-outside-requires
+sides-outside-requires c κs = search needs
+
+returns : tie.Need-returns
+unfolding planesAnswer
+returns c = rw (sym (c .before .sides-outside .ensures) ∙ c .if1 .taken)
+
+-- the sides are within the limits
+in-limits : (c : tie.Else1) → sidesOutside (c .before .before .before .args .least) (c .before .before .before .args .height) (c .before .before .before .args .width) ≡ false
+in-limits c = sym (c .before .sides-outside .ensures) ∙ c .if1 .left
+
+here : (c : tie.Else1) → SidesIn (c .before .before .before .args .least) (c .before .before .before .args .height) (c .before .before .before .args .width)
+here c = sides-in _ _ _ (in-limits c)
+
+mul-if2 : tie.Need-mul-if2
+mul-if2 c = omega (arith, here c .area)
+
+mul-if2-2 : tie.Need-mul-if2-2
+mul-if2-2 c = omega (arith, here c .area)
+
+returns-2 : tie.Need-returns-2
+unfolding planesAnswer
+returns-2 c = rw (in-limits (c .before), lt-ltb _ _ (c .if2 .taken))
+
+returns-3 : tie.Need-returns-3
+unfolding planesAnswer
+returns-3 c = rw (in-limits (c .before .before), le-ltb _ _ (c .before .if2 .left), c .if3 .taken)
+
+mul-all-units : tie.Need-mul-all-units
+mul-all-units c = search needs
+
+mul-all-units-2 : tie.Need-mul-all-units-2
+mul-all-units-2 c = search needs
+
+all-units-requires : tie.Need-all-units-requires
+all-units-requires c κs = (omega arith, omega (arith, here (c .before .before) .area))
+
+returns-4 : tie.Need-returns-4
+unfolding planesAnswer
+returns-4 c =
+    rw (in-limits (c .before .before .before .before), le-ltb _ _ (c .before .before .before .if2 .left), c .before .before .if3 .left, sym (c .before .all-units .ensures) ∙ c .if4 .taken)
+
+returns-5 : tie.Need-returns-5
+unfolding planesAnswer
+returns-5 c =
+    rw (in-limits (c .before .before .before .before), le-ltb _ _ (c .before .before .before .if2 .left), c .before .before .if3 .left, sym (c .before .all-units .ensures) ∙ c .if4 .left)
+
+pub planes-answer-spec : {M : Type 1} → statement M
+planes-answer-spec =
+    tie.close
+    (tie.spec
+    sides-outside-requires
+    returns
+    mul-if2
+    mul-if2-2
+    returns-2
+    returns-3
+    mul-all-units
+    mul-all-units-2
+    all-units-requires
+    returns-4
+    returns-5)

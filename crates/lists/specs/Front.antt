@@ -1,0 +1,19 @@
+-- What a call writes into a slice that was lent to it: a list at its front, or from a place on. All else is as it was.
+use Prim.Native.Nat.{ℕ, _+_}
+use mathlib.Core.Path.{_≡_}
+use mathlib.Core.List.{List, _++_}
+use lib.ListN.{length, take, drop}
+
+-- what was lent, with the list written over its front
+abbrev pub over : {A : Type 0} → List A → List A → List A
+over list lent = list ++ drop (length list) lent
+
+-- the list stands at the front of what was lent, and the rest is as it was. Of an empty list: nothing is written.
+pub record AtFront {A : Type 0} (list lent out : List A) : Type 0 where
+  pub len : length out ≡ length lent
+  pub is : out ≡ over list lent
+
+-- the list stands from the place `at` on, and all else is as it was
+pub record Placed {A : Type 0} (list : List A) (at : ℕ) (lent out : List A) : Type 0 where
+  pub len : length out ≡ length lent
+  pub is : out ≡ take at lent ++ (list ++ drop (at + length list) lent)
