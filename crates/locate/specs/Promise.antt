@@ -2,57 +2,74 @@
 -- hands back. One statement on locating.
 use Prim.Native.Nat.{ℕ, _+_, _-_, _<_}
 use mathlib.Core.Path.{_≡_}
-use mathlib.Core.Bool.{Bool}
 use mathlib.Core.List.{List}
 use lib.Ieee.{Float}
 use lib.ListN.{length, getD}
-use Rattle.lists.specs.Picture.{flip}
 use Rattle.board.specs.declared.Board.{Board}
 use Rattle.strips.specs.Walk.{Walk, ends, Scores, ScoresAtMost}
 use Rattle.strips.specs.Strip.{Place, at, places, onStrip}
 use Rattle.votes.specs.Votes.{Wins}
+use Rattle.lines.specs.Lines.{linesOf, estimate}
 use Rattle.reading.specs.declared.Quarters.{Quarters}
 use Rattle.reading.specs.declared.Quarters.the-variants.{Read, Refused}
-use Rattle.reading.specs.Reading.{gapOf, remaining, pitchOf, quartersOf}
+use Rattle.reading.specs.Reading.{remaining, pitchOf, quartersOf}
 use Rattle.locate.specs.declared.Located.{Located}
-use Rattle.locate.specs.Locate.{firstPicture, wideBounds, columnList, rowList, found}
+use Rattle.locate.specs.Reference.{Reference, Axis, columnAxis, rowAxis}
+use Rattle.locate.specs.Locate.{Lent, checked, found, referenceFor}
 
--- scored place i of the columns c₁ to c₂
-abbrev pub placeAt : ℕ → ℕ → ℕ → Place
-placeAt c₁ c₂ i = getD (places c₁ c₂) i (at 0 0)
+-- what is handed back of one axis: the score of each place, the offset, the quarters, the votes and the pitch
+pub record Handed : Type 0 where
+  pub score : ℕ → ℕ
+  pub offset : ℕ
+  pub quarters : ℕ
+  pub votes : ℕ
+  pub pitch : Float
+
+-- column scores stand at the front of the score slice
+abbrev pub columnsHanded : Located → List ℕ → Handed
+columnsHanded r scores =
+    record { score = λ i. getD scores i 0; offset = r .board .c0; quarters = r .quarterc; votes = r .votesc; pitch = r .board .pixelc }
+
+-- row scores stand behind so many column scores
+abbrev pub rowsHanded : ℕ → Located → List ℕ → Handed
+rowsHanded n r scores =
+    record { score = λ i. getD scores (n + i) 0; offset = r .board .r0; quarters = r .quarterr; votes = r .votesr; pitch = r .board .pixelr }
+
+-- scored place i of an axis
+abbrev pub placeAt : Axis → ℕ → Place
+placeAt a i = getD (places (a .low) (a .high)) i (at 0 0)
+
+-- one axis cannot be beaten
+pub record Unbeaten (a : Axis) (x : Handed) : Type 0 where
+  -- no walk on a strip that ends at a scored place scores more than that place's entry
+  pub bounded : (i : ℕ) → i < length (places (a .low) (a .high)) → (walk : Walk (a .to - a .from)) → ends walk ≡ placeAt a i .lane
+      → ScoresAtMost (onStrip (a .picture) (a .from) (placeAt a i)) (placeAt a i .lane) walk (x .score i)
+  -- and some walk that ends there scores exactly that
+  pub attained : (i : ℕ) → i < length (places (a .low) (a .high)) → (walk : Walk (a .to - a .from))
+      × (ends walk ≡ placeAt a i .lane)
+      × Scores (onStrip (a .picture) (a .from) (placeAt a i)) (placeAt a i .lane) walk (x .score i)
+  -- the offset and q lie in the searched range of the list's lines and get exactly the votes handed back. Every other pair of the
+  -- range gets at most as many, and one with as many has a larger offset, or the same offset and a larger q.
+  pub wins : Wins (remaining (a .scores)) (estimate (linesOf (a .scores)))
+      (record { votes = x .votes; offset = x .offset; quarter = x .quarters })
+  pub pitch-is : x .pitch ≡ pitchOf (x .quarters)
 
 -- the count of an accepted reading
 abbrev pub countIn : Quarters → ℕ
 countIn (Read q offset count votes) = count
 countIn (Refused n) = 0
 
--- One axis. By the rules: the picture E, the strips from row `from` to `to` over the columns c₁ to c₂, and their score list s.
--- Handed back: the entry of each place, the offset, the quarters q, the votes and the pitch.
-pub record Unbeaten (E : ℕ → ℕ → Bool) (from to c₁ c₂ : ℕ) (s : List ℕ) (entry : ℕ → ℕ) (offset q voted : ℕ) (pitch : Float) : Type 0 where
-  -- no walk on a strip that ends at a scored place scores more than that place's entry
-  pub bounded : (i : ℕ) → i < length (places c₁ c₂) → (walk : Walk (to - from)) → ends walk ≡ placeAt c₁ c₂ i .lane
-      → ScoresAtMost (onStrip E from (placeAt c₁ c₂ i)) (placeAt c₁ c₂ i .lane) walk (entry i)
-  -- and some walk that ends there scores exactly that
-  pub attained : (i : ℕ) → i < length (places c₁ c₂) → (walk : Walk (to - from))
-      × (ends walk ≡ placeAt c₁ c₂ i .lane)
-      × Scores (onStrip E from (placeAt c₁ c₂ i)) (placeAt c₁ c₂ i .lane) walk (entry i)
-  -- the offset and q lie in the searched range of the list's lines and get exactly the votes handed back. Every other pair of the
-  -- range gets at most as many, and one with as many has a larger offset, or the same offset and a larger q.
-  pub wins : Wins (remaining s) (gapOf s) (record { votes = voted; offset = offset; quarter = q })
-  pub pitch-is : pitch ≡ pitchOf q
-
 -- where the answer is 0: the corner and the counts are the rules', and columns and rows are unbeaten
-pub record Kept (h w : ℕ) (planes : List Float) (r : Located) (scores : List ℕ) : Type 0 where
-  pub top : r .board .«r_1» ≡ wideBounds h w planes .«r_1»
-  pub left : r .board .«c_1» ≡ wideBounds h w planes .«c_1»
-  pub rows : r .board .r ≡ countIn (quartersOf (rowList h w planes))
-  pub columns : r .board .c ≡ countIn (quartersOf (columnList h w planes))
-  pub across : Unbeaten (firstPicture h w planes) (wideBounds h w planes .«r_1») (wideBounds h w planes .«r_2») (wideBounds h w planes .«c_1») (wideBounds h w planes .«c_2»)
-      (columnList h w planes) (λ i. getD scores i 0) (r .board .c0) (r .quarterc) (r .votesc) (r .board .pixelc)
-  pub down : Unbeaten (flip (firstPicture h w planes)) (wideBounds h w planes .«c_1») (wideBounds h w planes .«c_2») (wideBounds h w planes .«r_1») (wideBounds h w planes .«r_2»)
-      (rowList h w planes) (λ i. getD scores (length (columnList h w planes) + i) 0) (r .board .r0) (r .quarterr) (r .votesr) (r .board .pixelr)
+pub record Optimal (g : Reference) (r : Located) (scores : List ℕ) : Type 0 where
+  pub top-is : r .board .«r_1» ≡ g .bounds .«r_1»
+  pub left-is : r .board .«c_1» ≡ g .bounds .«c_1»
+  pub rows-are : r .board .r ≡ countIn (quartersOf (g .rows))
+  pub columns-are : r .board .c ≡ countIn (quartersOf (g .columns))
+  pub across : Unbeaten (columnAxis g) (columnsHanded r scores)
+  pub down : Unbeaten (rowAxis g) (rowsHanded (length (g .columns)) r scores)
 
--- The promise, over the planes as handed in and what is handed back. The answer is 0 exactly where the rules say so.
-pub record Promise (fit : ℕ) (b : Board) (planes : List Float) (r : Located) (scores : List ℕ) : Type 0 where
-  pub answered : (r .answer ≡ 0 → (fit ≡ 0) × (found b planes .answer ≡ 0)) × (fit ≡ 0 → found b planes .answer ≡ 0 → r .answer ≡ 0)
-  pub kept : r .answer ≡ 0 → Kept (b .height) (b .width) planes r scores
+-- The promise, over the record and the slices as handed in, and what is handed back. The answer is 0 exactly where the rules say so.
+pub record Promise (b : Board) (before : Lent) (r : Located) (after : Lent) : Type 0 where
+  pub answered : (r .answer ≡ 0 → (checked b before ≡ 0) × (found b (referenceFor b before) .answer ≡ 0))
+      × (checked b before ≡ 0 → found b (referenceFor b before) .answer ≡ 0 → r .answer ≡ 0)
+  pub optimal : r .answer ≡ 0 → Optimal (referenceFor b before) r (after .scores)

@@ -1,20 +1,22 @@
-// Locating the board (01, "Locating"). It refuses with 1, 3, 4 and 5 to 9. Definitions: specs/Search (the loop of narrowings),
-// specs/Locate (what a call hands back and leaves), specs/Promise (on the same edge picture no walk and no vote beats what it hands back).
+// Locating the board (01, "Locating"). It refuses with 1, 3, 4 and 5 to 9. Definitions: specs/Reference (what it is held to, from the sides and
+// planes as handed in), specs/Locate (what a call hands back and leaves), specs/Promise (on the same edge picture no walk and no vote beats what it
+// hands back). The loop of narrowings is crate narrowings, the scores and their readings crate axes.
 ghost use mathlib.Core.Path.{_≡_};
-ghost use mathlib.Core.Bool.{true, false};
-ghost use mathlib.Core.List.{_++_};
-ghost use Prim.Native.Nat.{_+_, _-_, _*_, _≤_, _<_};
-ghost use lib.ListN.{length, take, drop};
-ghost use Rattle.lists.specs.Picture.{points};
-ghost use Rattle.strips.specs.Strip.{columnScores, rowScores};
-ghost use Rattle.strips.specs.States.{Scorable};
-ghost use Rattle.locate.specs.Search as Search;
+ghost use mathlib.Core.Bool.{false};
+ghost use mathlib.Core.List.{[]};
+ghost use Prim.Native.Nat.{_-_, _*_, _≤_};
+ghost use lib.ListN.{length, take};
+ghost use Rattle.board.specs.Board.{leastSide, sidesOutside};
+ghost use Rattle.board.specs.Planes.{FitPlanes};
+ghost use Rattle.axes.specs.Axes.{Short};
 ghost use Rattle.locate.specs.Locate as Spec;
-ghost use Rattle.locate.specs.Locate.{fitAnswer, LocateGives, ScratchKept};
+ghost use Rattle.locate.specs.Locate.{lent, slicesShort, checked, LocateGives};
 ghost use Rattle.locate.specs.Promise.{Promise};
-ghost use Rattle.locate.specs.Steps.{Fit, Looks, Narrows, Short, ReadsOn, Leads, ReadsFrom};
+ghost use Rattle.locate.specs.Steps.{Room, Leads, ReadsFrom, Works};
 use board::Board;
 use board::Bounds;
+use board::Spacing;
+use narrowings::Narrowed;
 use reading::Quarters;
 
 // A record and the answer, both pitches in quarters, both counts of votes, and how often the screen was narrowed.
@@ -30,100 +32,70 @@ pub struct Located {
 }
 
 // An accepted reading of one axis.
-struct Axis {
+struct Accepted {
     quarter: usize,
     offset: usize,
     count: usize,
     votes: usize,
 }
 
-// Whether a lent slice is short.
+// Whether a slice other than the planes is short. With sides outside the limits any answer will do: it is not looked at.
 fn slices_short(
     height: usize,
     width: usize,
-    planes: usize,
-    edges: usize,
-    scores: usize,
-    floats: usize,
-    bytes: usize,
-    words: usize,
+    edges: &[u8],
+    scores: &[u32],
+    scratch_f32: &[f32],
+    scratch_u8: &[u8],
+    scratch_u32: &[u32],
 ) -> bool
-    requires { ⌜ (height ≤ 4096) × (width ≤ 4096) ⌝ }
-    ensures { λ r. ⌜ r ≡ Spec.slicesShort height width planes edges scores floats bytes words ⌝ }
+    ensures { λ r.
+        let s = lent [] (now (edges .entry)) (now (scores .entry)) (now («scratch_f32» .entry)) (now («scratch_u8» .entry)) (now («scratch_u32» .entry)) in
+        ⌜ (sidesOutside leastSide height width ≡ false → r ≡ slicesShort height width s) ⌝ }
 {
+    if board::sides_outside(Board::LEAST_SIDE, height, width) {
+        return true;
+    }
     let n = height * width;
-    if planes < 3 * n {
+    if edges.len() < n {
         return true;
     }
-    if edges < n {
+    if scores.len() < height + width {
         return true;
     }
-    if scores < height + width {
+    if scratch_f32.len() < n {
         return true;
     }
-    if floats < n {
+    if scratch_u8.len() < n {
         return true;
     }
-    if bytes < n {
-        return true;
-    }
-    words < 4 * (height + width)
+    scratch_u32.len() < 4 * (height + width)
 }
 
 // The checks before any work.
-fn fit_answer(
-    height: usize,
-    width: usize,
+fn check(
+    b: Board,
     planes: &[f32],
-    edges: usize,
-    scores: usize,
-    floats: usize,
-    bytes: usize,
-    words: usize,
+    edges: &[u8],
+    scores: &[u32],
+    scratch_f32: &[f32],
+    scratch_u8: &[u8],
+    scratch_u32: &[u32],
 ) -> u32
-    ensures { λ r. ⌜ r ≡ fitAnswer height width (now (planes .entry)) edges scores floats bytes words ⌝ }
+    ensures { λ r.
+        let s = lent (now (planes .entry)) (now (edges .entry)) (now (scores .entry)) (now («scratch_f32» .entry)) (now («scratch_u8» .entry)) (now («scratch_u32» .entry)) in
+        ⌜ r ≡ checked b s ⌝ }
 {
-    if board::sides_outside(Board::LEAST_SIDE, height, width) {
-        return 1;
-    }
-    if slices_short(
-        height,
-        width,
-        planes.len(),
+    let short = slices_short(
+        b.height,
+        b.width,
         edges,
         scores,
-        floats,
-        bytes,
-        words,
-    ) {
-        return 3;
-    }
-    if board::all_units(planes, 3 * (height * width)) {
-        return 0;
-    }
-    4
-}
-
-// Whether a span of the bounds is at most a third of row or column.
-fn thin(height: usize, width: usize, b: Bounds) -> bool
-    requires { ⌜ (2 ≤ height) × (2 ≤ width) × (b .«r_1» ≤ b .«r_2») × (b .«c_1» ≤ b .«c_2») ⌝ }
-    ensures { λ r. ⌜ r ≡ Search.thin height width b ⌝ }
-{
-    if b.r_2 - b.r_1 <= (height - 2) / 3 {
-        return true;
-    }
-    b.c_2 - b.c_1 <= (width - 2) / 3
-}
-
-// Whether row or column is at most 64.
-fn small(height: usize, width: usize) -> bool
-    requires { ⌜ (2 ≤ height) × (2 ≤ width) ⌝ }
-    ensures { λ r. ⌜ r ≡ Search.small height width ⌝ }
-{
-    if height - 2 <= 64 {
-        return true;
-    }
-    width - 2 <= 64
+        scratch_f32,
+        scratch_u8,
+        scratch_u32,
+    );
+    board::planes_answer(Board::LEAST_SIDE, b.height, b.width, planes, short)
 }
 
 // A refusal: all but the record, the answer and the count of narrowings is 0.
@@ -141,99 +113,28 @@ fn declined(b: Board, answer: u32, narrowed: u32) -> Located
     }
 }
 
-// The record with the sides of the last picture.
-fn resized(b: Board, height: usize, width: usize) -> Board
-    ensures { λ r. ⌜ r ≡ Spec.resized b height width ⌝ }
+fn spacing(a: Accepted) -> Spacing
+    requires { ⌜ a .quarter ≤ 800 ⌝ }
+    ensures { λ r. ⌜ r ≡ Spec.spacing (a .quarter) (a .offset) (a .count) ⌝ }
 {
-    let mut out = b;
-    out.height = height;
-    out.width = width;
-    out
-}
-
-// Gradient, edges and bounds of a screen. The gradients go into `floats`, the edge picture to the front of `bytes`.
-fn look(height: usize, width: usize, planes: &[f32], floats: &mut [f32], bytes: &mut [u8]) -> Bounds
-    requires { ⌜ Fit height width (now planes) × (height * width ≤ length (now floats)) × (height * width ≤ length (now bytes)) ⌝ }
-    ensures { λ r. ⌜ Looks height width (now (planes .entry)) (now (bytes .entry)) r (now (bytes .exit)) ⌝ }
-{
-    gradient::gradient_of(height, width, planes, floats);
-    let row = height - 2;
-    let column = width - 2;
-    let n = row * column;
-    edges::edges_of(row, column, &floats[..n], bytes);
-    bounds::get_r12c12(&bytes[..n], row, column)
-}
-
-// Where the loop of narrowings ends: the sides of the last picture, how often the screen was narrowed, whether it got too small,
-// and the bounds of that picture otherwise.
-struct Narrowed {
-    height: usize,
-    width: usize,
-    narrowed: u32,
-    small: bool,
-    bounds: Bounds,
-}
-
-// Narrows the screen until both spans of its bounds are large enough. `first` are the bounds of the screen as it is.
-fn narrow_on(
-    height: usize,
-    width: usize,
-    first: Bounds,
-    planes: &mut [f32],
-    floats: &mut [f32],
-    bytes: &mut [u8],
-) -> Narrowed
-    requires { ⌜ (12 ≤ height) × (12 ≤ width) × Fit height width (now planes) × (first ≡ Search.scanOf height width (now planes)) ⌝ }
-    requires { ⌜ (height * width ≤ length (now floats)) × (height * width ≤ length (now bytes)) ⌝ }
-    ensures { λ r. ⌜ Narrows height width (now (planes .entry)) r (now (planes .exit)) ⌝ }
-{
-    let mut h = height;
-    let mut w = width;
-    let mut b = first;
-    let mut n: u32 = 0;
-    while thin(h, w, b) {
-        narrow::narrow(h, w, planes, floats);
-        h = h / 3;
-        w = w / 3;
-        n = n + 1;
-        if small(h, w) {
-            return Narrowed {
-                height: h,
-                width: w,
-                narrowed: n,
-                small: true,
-                bounds: b,
-            };
-        }
-        b = look(h, w, planes, floats, bytes);
-    }
-    Narrowed {
-        height: h,
-        width: w,
-        narrowed: n,
-        small: false,
-        bounds: b,
+    Spacing {
+        offset: a.offset,
+        count: a.count,
+        pitch: reading::pitch_of(a.quarter),
     }
 }
 
 // A record of an accepted board.
-fn accepted(b: Board, narrowed: u32, wide: Bounds, columns: Axis, rows: Axis) -> Located
+fn accepted(b: Board, narrowed: u32, bounds: Bounds, columns: Accepted, rows: Accepted) -> Located
     requires { ⌜ (columns .quarter ≤ 800) × (columns .votes ≤ 4194304) × (rows .quarter ≤ 800) × (rows .votes ≤ 4194304) ⌝ }
-    ensures { λ r. ⌜ r ≡ Spec.joined b narrowed wide (Quarters.Read (columns .quarter) (columns .offset) (columns .count) (columns .votes)) (Quarters.Read (rows .quarter) (rows .offset) (rows .count) (rows .votes)) ⌝ }
+    ensures { λ r.
+        let across = Quarters.Read (columns .quarter) (columns .offset) (columns .count) (columns .votes) in
+        let down = Quarters.Read (rows .quarter) (rows .offset) (rows .count) (rows .votes) in
+        ⌜ r ≡ Spec.joined b narrowed bounds across down ⌝ }
 {
+    let board = b.with_reading(bounds, spacing(rows), spacing(columns));
     Located {
-        board: Board {
-            height: b.height,
-            width: b.width,
-            r_1: wide.r_1,
-            c_1: wide.c_1,
-            r0: rows.offset,
-            c0: columns.offset,
-            r: rows.count,
-            c: columns.count,
-            pixelr: reading::pitch_of(rows.quarter),
-            pixelc: reading::pitch_of(columns.quarter),
-        },
+        board: board,
         answer: 0,
         quarterr: rows.quarter as u32,
         quarterc: columns.quarter as u32,
@@ -244,9 +145,9 @@ fn accepted(b: Board, narrowed: u32, wide: Bounds, columns: Axis, rows: Axis) ->
 }
 
 // Both readings together: columns answer first, rows with 2 more.
-fn joined(b: Board, narrowed: u32, wide: Bounds, columns: Quarters, rows: Quarters) -> Located
+fn joined(b: Board, narrowed: u32, bounds: Bounds, columns: Quarters, rows: Quarters) -> Located
     requires { ⌜ Short columns × Short rows ⌝ }
-    ensures { λ r. ⌜ r ≡ Spec.joined b narrowed wide columns rows ⌝ }
+    ensures { λ r. ⌜ r ≡ Spec.joined b narrowed bounds columns rows ⌝ }
 {
     match columns {
         Quarters::Refused(n) => declined(b, n, narrowed),
@@ -265,14 +166,14 @@ fn joined(b: Board, narrowed: u32, wide: Bounds, columns: Quarters, rows: Quarte
             } => accepted(
                 b,
                 narrowed,
-                wide,
-                Axis {
+                bounds,
+                Accepted {
                     quarter: quarter,
                     offset: offset,
                     count: count,
                     votes: votes,
                 },
-                Axis {
+                Accepted {
                     quarter: q,
                     offset: o,
                     count: k,
@@ -283,116 +184,87 @@ fn joined(b: Board, narrowed: u32, wide: Bounds, columns: Quarters, rows: Quarte
     }
 }
 
-// Column scores, then row scores, to the front of `scores`. `turned` is scratch.
-fn score_all(edges: &[u8], stride: usize, b: Bounds, turned: &mut [u8], scores: &mut [u32])
-    requires { ⌜ Scorable (now edges) stride b × ((b .«c_2» - b .«c_1» + 1) * (b .«r_2» - b .«r_1») ≤ length (now turned)) ⌝ }
-    requires { ⌜ b .«c_2» - b .«c_1» + (b .«r_2» - b .«r_1») ≤ length (now scores) ⌝ }
-    ensures { λ _. ⌜ now (scores .exit) ≡ columnScores (points stride 1 (now (edges .entry))) b ++ (rowScores (points stride 1 (now (edges .entry))) b ++ drop (b .«c_2» - b .«c_1» + (b .«r_2» - b .«r_1»)) (now (scores .entry))) ⌝ }
-{
-    strips::column_scores(edges, stride, b, scores);
-    let from = b.c_2 - b.c_1;
-    strips::row_scores(edges, stride, b, turned, &mut scores[from..]);
-}
-
-// What follows the loop, with the bounds widened: the scores of the first edge picture, and both readings.
-fn read_on(
-    b: Board,
-    narrowed: u32,
-    wide: Bounds,
-    stride: usize,
-    edges: &[u8],
-    scores: &mut [u32],
-    bytes: &mut [u8],
-    words: &mut [u32],
-) -> Located
-    requires { ⌜ Scorable (now edges) stride wide × ((wide .«c_2» - wide .«c_1» + 1) * (wide .«r_2» - wide .«r_1») ≤ length (now bytes)) ⌝ }
-    requires { ⌜ wide .«c_2» - wide .«c_1» + (wide .«r_2» - wide .«r_1») ≤ length (now scores) ⌝ }
-    requires { ⌜ 4 * (wide .«c_2» - wide .«c_1» + (wide .«r_2» - wide .«r_1»)) ≤ length (now words) ⌝ }
-    ensures { λ r. ⌜ ReadsOn (points stride 1 (now (edges .entry))) b narrowed wide (now (scores .entry)) r (now (scores .exit)) ⌝ }
-{
-    score_all(edges, stride, wide, bytes, scores);
-    let across = wide.c_2 - wide.c_1;
-    let end = across + (wide.r_2 - wide.r_1);
-    let columns = reading::quarters_of(&scores[..across], words);
-    let rows = reading::quarters_of(&scores[across..end], words);
-    joined(b, narrowed, wide, columns, rows)
-}
-
-// What follows the loop: the last bounds are widened on the first edge picture, which stands at the front of `edges`.
+// What follows the loop: the last bounds are widened on the first edge picture, which stands at the front of `edges`, and both axes are read.
 fn read_from(
     b: Board,
     l: Narrowed,
     edges: &[u8],
     scores: &mut [u32],
-    bytes: &mut [u8],
-    words: &mut [u32],
+    scratch_u8: &mut [u8],
+    scratch_u32: &mut [u32],
 ) -> Located
-    requires { ⌜ Leads (b .height) (b .width) l (now edges) (length (now scores)) (length (now bytes)) (length (now words)) ⌝ }
-    ensures { λ r. ⌜ ReadsFrom b l (take ((b .height - 2) * (b .width - 2)) (now (edges .entry))) (now (scores .entry)) r (now (scores .exit)) ⌝ }
+    requires { ⌜ Leads (b .height) (b .width) l (now edges) (length (now scores)) (length (now «scratch_u8»)) (length (now «scratch_u32»)) ⌝ }
+    ensures { λ r.
+        let picture = take ((b .height - 2) * (b .width - 2)) (now (edges .entry)) in
+        ⌜ ReadsFrom b l picture (now (scores .entry)) r (now (scores .exit)) ⌝ }
 {
     let stride = b.width - 2;
     let n = (b.height - 2) * stride;
     let wide = bounds::widen(&edges[..n], stride, l.height - 2, l.width - 2, l.bounds);
-    let sized = resized(b, l.height, l.width);
-    read_on(
-        sized,
+    let axes = axes::read_axes(&edges[..n], stride, wide, scores, scratch_u8, scratch_u32);
+    let columns = axes.columns;
+    let rows = axes.rows;
+    joined(
+        b.resized(l.height, l.width),
         l.narrowed,
         wide,
-        stride,
-        &edges[..n],
-        scores,
-        bytes,
-        words,
+        columns,
+        rows,
     )
 }
 
 // The work, once the checks passed.
-fn work(
+pub fn work(
     b: Board,
     planes: &mut [f32],
     edges: &mut [u8],
     scores: &mut [u32],
-    floats: &mut [f32],
-    bytes: &mut [u8],
-    words: &mut [u32],
+    scratch_f32: &mut [f32],
+    scratch_u8: &mut [u8],
+    scratch_u32: &mut [u32],
 ) -> Located
-    requires { ⌜ fitAnswer (b .height) (b .width) (now planes) (length (now edges)) (length (now scores)) (length (now floats)) (length (now bytes)) (length (now words)) ≡ 0 ⌝ }
-    ensures { λ r. ⌜ LocateGives 0 b (now (planes .entry)) (now (edges .entry)) (now (scores .entry)) r (now (planes .exit)) (now (edges .exit)) (now (scores .exit)) ⌝ }
+    requires { ⌜ FitPlanes leastSide (b .height) (b .width) (now planes) ⌝ }
+    requires {
+        let s = lent (now planes) (now edges) (now scores) (now «scratch_f32») (now «scratch_u8») (now «scratch_u32») in
+        ⌜ Room (b .height) (b .width) s ⌝ }
+    ensures { λ r.
+        let before = lent (now (planes .entry)) (now (edges .entry)) (now (scores .entry)) (now («scratch_f32» .entry)) (now («scratch_u8» .entry)) (now («scratch_u32» .entry)) in
+        let after = lent (now (planes .exit)) (now (edges .exit)) (now (scores .exit)) (now («scratch_f32» .exit)) (now («scratch_u8» .exit)) (now («scratch_u32» .exit)) in
+        ⌜ Works b before r after ⌝ }
 {
     let height = b.height;
     let width = b.width;
-    let first = look(height, width, planes, floats, edges);
-    let l = narrow_on(height, width, first, planes, floats, bytes);
+    let first = narrowings::look(height, width, planes, scratch_f32, edges);
+    let l = narrowings::narrow_on(height, width, first, planes, scratch_f32, scratch_u8);
     if l.small {
-        let sized = resized(b, l.height, l.width);
-        return declined(sized, 5, l.narrowed);
+        return declined(b.resized(l.height, l.width), 5, l.narrowed);
     }
-    read_from(b, l, edges, scores, bytes, words)
+    read_from(b, l, edges, scores, scratch_u8, scratch_u32)
 }
 
-// Locates the board in the lent planes. `floats`, `bytes` and `words` are scratch; what is lent of them beyond 01's lengths is kept.
+// Locates the board in the lent planes. What is lent of the scratch slices beyond 01's lengths is kept.
 pub fn get_pos_pixel(
     b: Board,
     planes: &mut [f32],
     edges: &mut [u8],
     scores: &mut [u32],
-    floats: &mut [f32],
-    bytes: &mut [u8],
-    words: &mut [u32],
+    scratch_f32: &mut [f32],
+    scratch_u8: &mut [u8],
+    scratch_u32: &mut [u32],
 ) -> Located
-    ensures gives { λ r. ⌜ LocateGives (fitAnswer (b .height) (b .width) (now (planes .entry)) (length (now (edges .entry))) (length (now (scores .entry))) (length (now (floats .entry))) (length (now (bytes .entry))) (length (now (words .entry)))) b (now (planes .entry)) (now (edges .entry)) (now (scores .entry)) r (now (planes .exit)) (now (edges .exit)) (now (scores .exit)) ⌝ }
-    ensures promise { λ r. ⌜ Promise (fitAnswer (b .height) (b .width) (now (planes .entry)) (length (now (edges .entry))) (length (now (scores .entry))) (length (now (floats .entry))) (length (now (bytes .entry))) (length (now (words .entry)))) b (now (planes .entry)) r (now (scores .exit)) ⌝ }
-    ensures kept { λ _. ⌜ ScratchKept (b .height) (b .width) (now (floats .entry)) (now (bytes .entry)) (now (words .entry)) (now (floats .exit)) (now (bytes .exit)) (now (words .exit)) ⌝ }
+    ensures { λ r.
+        let before = lent (now (planes .entry)) (now (edges .entry)) (now (scores .entry)) (now («scratch_f32» .entry)) (now («scratch_u8» .entry)) (now («scratch_u32» .entry)) in
+        let after = lent (now (planes .exit)) (now (edges .exit)) (now (scores .exit)) (now («scratch_f32» .exit)) (now («scratch_u8» .exit)) (now («scratch_u32» .exit)) in
+        ⌜ LocateGives b before r after × Promise b before r after ⌝ }
 {
-    let answer = fit_answer(
-        b.height,
-        b.width,
+    let answer = check(
+        b,
         planes,
-        edges.len(),
-        scores.len(),
-        floats.len(),
-        bytes.len(),
-        words.len(),
+        edges,
+        scores,
+        scratch_f32,
+        scratch_u8,
+        scratch_u32,
     );
     if answer != 0 {
         return declined(b, answer, 0);
@@ -404,8 +276,8 @@ pub fn get_pos_pixel(
         planes,
         edges,
         scores,
-        &mut floats[..n],
-        &mut bytes[..n],
-        &mut words[..m],
+        &mut scratch_f32[..n],
+        &mut scratch_u8[..n],
+        &mut scratch_u32[..m],
     )
 }

@@ -12,7 +12,7 @@ use Rattle.lists.specs.Tab.{tabFrom, grid}
 use Rattle.lists.proofs.Fill.{length-tabFrom}
 use Rattle.rank.proofs.Members.{Each, entry-each}
 use Rattle.board.specs.Screen.{Screen, packed, view}
-use Rattle.board.specs.Planes.{allUnits}
+use Rattle.board.specs.Planes.{allUnits, FitPlanes}
 use Rattle.narrow.specs.Narrow.{UnitPlanes, block, median, narrowed, narrow}
 use Rattle.narrow.proofs.AllUnits.{Small, each-units}
 use Rattle.narrow.proofs.Packed.{length-packed}
@@ -65,3 +65,10 @@ narrow-units f h w planes l p =
       there = omega (arith, smaller f h w, narrow-length f h w planes (p .there), p .there);
       units = ap allUnits (take-at (packed s) _ (3 * (h / f * (w / f))) (length-packed s)) ∙ small;
     }
+
+pub narrow-fit : (f : ℕ) → 2 ≤ f → (least h w : ℕ) (planes : List Float) → FitPlanes 0 h w planes → least ≤ h / f → least ≤ w / f → FitPlanes least (h / f) (w / f) (narrow f h w planes)
+narrow-fit f l least h w planes p a b =
+    let u = narrow-units f h w planes (omega arith) (record { there = p .there; units = p .units }) in
+    let hh = div-le-self h f in
+    let ww = div-le-self w f in
+    record { sides = record { low-h = a; high-h = omega (arith, p .sides .high-h, hh); low-w = b; high-w = omega (arith, p .sides .high-w, ww); area = omega (arith, p .sides .area, smaller f h w) }; there = u .there; units = u .units }

@@ -1,8 +1,9 @@
+-- `narrowings::small` meets its contract: each side is tested by itself.
 use borrow.Author.Tests.{le-leb, lt-leb}
-use Rattle.locate.specs.Search.{small}
+use Rattle.narrowings.specs.Loop.{small}
 use borrow.Author.Needs.{needs}
-use Rattle.locate.proofs.small.Statement.{statement}
-use Rattle.locate.proofs.small.Tie as tie
+use Rattle.narrowings.proofs.small.Statement.{statement}
+use Rattle.narrowings.proofs.small.Tie as tie
 
 sub-if1 : tie.Need-sub-if1
 sub-if1 c = search needs

@@ -1,8 +1,9 @@
+-- `narrowings::thin` meets its contract: each span is tested by itself.
 use borrow.Author.Tests.{le-leb, lt-leb}
-use Rattle.locate.specs.Search.{thin}
+use Rattle.narrowings.specs.Loop.{thin}
 use borrow.Author.Needs.{needs}
-use Rattle.locate.proofs.thin.Statement.{statement}
-use Rattle.locate.proofs.thin.Tie as tie
+use Rattle.narrowings.proofs.thin.Statement.{statement}
+use Rattle.narrowings.proofs.thin.Tie as tie
 
 sub-if1 : tie.Need-sub-if1
 sub-if1 c = search needs

@@ -1,0 +1,59 @@
+-- What locating is held to: by the rules of 01, "Locating", from the sides and planes as handed in, and from nothing else.
+use Prim.Native.Nat.{ℕ, _-_}
+use mathlib.Core.Bool.{Bool}
+use mathlib.Core.List.{List}
+use lib.Ieee.{Float}
+use Rattle.lists.specs.Picture.{flip}
+use Rattle.board.specs.declared.Bounds.{Bounds}
+use Rattle.bounds.specs.Bounds.{widen}
+use Rattle.narrowings.specs.Loop.{Last, first, edgesIn, pictureIn, boundsIn, lastOf}
+use Rattle.strips.specs.Strip.{columnScores, rowScores}
+
+pub record Reference : Type 0 where
+  -- where the loop of narrowings ends
+  pub last : Last
+  -- the edge picture that is scored, as bytes and as a picture
+  pub edges : List ℕ
+  pub picture : ℕ → ℕ → Bool
+  -- the last bounds, widened on it
+  pub bounds : Bounds
+  -- the scores of the columns, and of the rows
+  pub columns : List ℕ
+  pub rows : List ℕ
+
+-- All steps below the loop use the first edge picture with the last bounds. Screens are narrowed by 3.
+unfoldable pub referenceOf : ℕ → ℕ → List Float → Reference
+unfolding lastOf
+referenceOf h w planes =
+    let last = lastOf 3 h w planes in
+    let scored = first h w planes in
+    let l = last .stage in
+    let b = widen (pictureIn scored) (l .height - 2) (l .width - 2) (boundsIn l) in
+    record {
+      last = last;
+      edges = edgesIn scored;
+      picture = pictureIn scored;
+      bounds = b;
+      columns = columnScores (pictureIn scored) b;
+      rows = rowScores (pictureIn scored) b;
+    }
+
+-- one axis: the strips of a picture over the rows `from` to `to`, at the columns `low` to `high`, and their scores
+pub record Axis : Type 0 where
+  pub picture : ℕ → ℕ → Bool
+  pub from : ℕ
+  pub to : ℕ
+  pub low : ℕ
+  pub high : ℕ
+  pub scores : List ℕ
+
+abbrev pub columnAxis : Reference → Axis
+columnAxis g =
+    let b = g .bounds in
+    record { picture = g .picture; from = b .«r_1»; to = b .«r_2»; low = b .«c_1»; high = b .«c_2»; scores = g .columns }
+
+-- rows are the columns of the flipped picture
+abbrev pub rowAxis : Reference → Axis
+rowAxis g =
+    let b = g .bounds in
+    record { picture = flip (g .picture); from = b .«c_1»; to = b .«c_2»; low = b .«r_1»; high = b .«r_2»; scores = g .rows }

@@ -1,0 +1,151 @@
+-- The loop of narrowings, over the factor: what passes on from screen to screen, one induction for where it ends, and what holds before each turn of
+-- the code's loop. Assumes nothing.
+use Prim.Native.Nat.{ℕ, zero, suc, _+_, _-_, _*_, _/_, _≤_}
+use mathlib.Core.Path.{_≡_, refl, _∙_}
+use mathlib.Core.Bool.{Bool, true, false, cond, true≢false}
+use mathlib.Core.List.{List}
+use native.Mathlib.Nat.{div-le-self, div-lt-self}
+use native.Mathlib.Omega.{arith}
+use borrow.Author.Tests.{leb-false}
+use lib.Dec.{leb}
+use lib.Ieee.{Float}
+use lib.ListN.{length}
+use Rattle.board.specs.declared.Bounds.{Bounds}
+use Rattle.board.specs.Board.{leastSide}
+use Rattle.board.specs.Planes.{FitPlanes}
+use Rattle.board.proofs.Planes.{fit-lower}
+use Rattle.board.proofs.Sides.{neither}
+use Rattle.narrow.specs.Narrow.{narrow}
+use Rattle.narrow.proofs.Laws.{smaller, narrow-length, narrow-fit}
+use Rattle.bounds.proofs.Laws.{Around, around}
+use Rattle.narrowings.specs.declared.Narrowed.{Narrowed}
+use Rattle.narrowings.specs.Loop.{Stage, stage, first, pictureIn, boundsIn, thin, small, next, Last, turn, looped, lastOf}
+use Rattle.narrowings.specs.Steps.{Narrows}
+
+-- a picture that is not small
+pub large : (h w : ℕ) → small h w ≡ false → (67 ≤ h) × (67 ≤ w)
+unfolding small
+large h w e =
+    let a = neither (leb (h - 2) 64) (leb (w - 2) 64) e in
+    (omega (arith, leb-false (h - 2) 64 (a .0)), omega (arith, leb-false (w - 2) 64 (a .1)))
+
+-- spans of bounds that are not thin
+pub spans : (h w : ℕ) (b : Bounds) → thin h w b ≡ false → ((h - 2) / 3 + 1 ≤ b .«r_2» - b .«r_1») × ((w - 2) / 3 + 1 ≤ b .«c_2» - b .«c_1»)
+unfolding thin
+spans h w b e =
+    let a = neither (leb (b .«r_2» - b .«r_1») ((h - 2) / 3)) (leb (b .«c_2» - b .«c_1») ((w - 2) / 3)) e in
+    (omega (arith, leb-false (b .«r_2» - b .«r_1») ((h - 2) / 3) (a .0)), omega (arith, leb-false (b .«c_2» - b .«c_1») ((w - 2) / 3) (a .1)))
+
+-- what passes on: the planes are fit, the sides are within the first ones, and the slice is as long
+pub record Sound (h w long : ℕ) (s : Stage) : Type 0 where
+  pub fit : FitPlanes leastSide (s .height) (s .width) (s .planes)
+  pub high-h : s .height ≤ h
+  pub high-w : s .width ≤ w
+  pub area : s .height * s .width ≤ h * w
+  pub long-is : length (s .planes) ≡ long
+
+pub sound-first : {h w : ℕ} {planes : List Float} → FitPlanes leastSide h w planes → Sound h w (length planes) (first h w planes)
+sound-first f = record { fit = f; high-h = omega arith; high-w = omega arith; area = omega arith; long-is = refl }
+
+-- the bounds of such a screen lie around its middle
+pub sound-around : {h w long : ℕ} {s : Stage} → Sound h w long s → Around (s .height - 2) (s .width - 2) (boundsIn s)
+sound-around {s = s} p = around (pictureIn s) (omega (arith, p .fit .sides .low-h)) (omega (arith, p .fit .sides .low-w))
+
+-- they are in order
+pub ordered : {h w long : ℕ} {s : Stage} → Sound h w long s → (boundsIn s .«r_1» ≤ boundsIn s .«r_2») × (boundsIn s .«c_1» ≤ boundsIn s .«c_2»)
+ordered p = let a = sound-around p in (omega (arith, a .rows .low, a .rows .high), omega (arith, a .columns .low, a .columns .high))
+
+module _ (f : ℕ) (two : 2 ≤ f) where
+  pub sound-next : {h w long : ℕ} {s : Stage} → Sound h w long s → small (s .height / f) (s .width / f) ≡ false → Sound h w long (next f s)
+  sound-next {s = s} p e =
+      let l = large (s .height / f) (s .width / f) e in
+      record {
+        fit = narrow-fit f two leastSide (s .height) (s .width) (s .planes) (fit-lower 0 (omega arith) (p .fit)) (omega (arith, l .0)) (omega (arith, l .1));
+        high-h = omega (arith, p .high-h, div-le-self (s .height) f);
+        high-w = omega (arith, p .high-w, div-le-self (s .width) f);
+        area = omega (arith, p .area, smaller f (s .height) (s .width));
+        long-is = narrow-length f (s .height) (s .width) (s .planes) (p .fit .there) ∙ p .long-is;
+      }
+
+  -- The induction: what holds of a screen, and passes on to a narrowed one that is not small, holds where the loop ends well; and that is not thin.
+  pub ends-well : (P : Stage → Type 0) → ((s : Stage) → P s → small (s .height / f) (s .width / f) ≡ false → P (next f s))
+      → (turns : ℕ) (s : Stage) → P s → looped f turns s .tooSmall ≡ false
+      → P (looped f turns s .stage) × (thin (looped f turns s .stage .height) (looped f turns s .stage .width) (boundsIn (looped f turns s .stage)) ≡ false)
+  ends-well P pass zero s p e = absurd (true≢false e)
+  ends-well P pass (suc turns) s p e =
+      go (thin (s .height) (s .width) (boundsIn s)) refl (small (s .height / f) (s .width / f)) refl (ends-well P pass turns (next f s)) e
+    where
+      Ends : Last → Type 0
+      Ends l = P (l .stage) × (thin (l .stage .height) (l .stage .width) (boundsIn (l .stage)) ≡ false)
+
+      ended : Bool → Bool → Last
+      ended a b = cond a (cond b (record { stage = next f s; tooSmall = true }) (looped f turns (next f s))) (record { stage = s; tooSmall = false })
+
+      go : (a : Bool) → thin (s .height) (s .width) (boundsIn s) ≡ a → (b : Bool) → small (s .height / f) (s .width / f) ≡ b
+          → (P (next f s) → looped f turns (next f s) .tooSmall ≡ false → Ends (looped f turns (next f s)))
+          → ended a b .tooSmall ≡ false → Ends (ended a b)
+      go false q b r ih z = (p, q)
+      go true q true r ih z = absurd (true≢false z)
+      go true q false r ih z = ih (pass s p r) z
+
+  -- where the loop ends well, the last screen is sound and not thin
+  pub last-sound : (h w : ℕ) (planes : List Float) → FitPlanes leastSide h w planes → lastOf f h w planes .tooSmall ≡ false
+      → Sound h w (length planes) (lastOf f h w planes .stage)
+      × (thin (lastOf f h w planes .stage .height) (lastOf f h w planes .stage .width) (boundsIn (lastOf f h w planes .stage)) ≡ false)
+  unfolding lastOf
+  last-sound h w planes p e = ends-well (Sound h w (length planes)) (λ s q r. sound-next q r) h (first h w planes) (sound-first p) e
+
+  -- ---- the code's loop. Before a turn: the loop from the start is the loop from here, and enough turns are left.
+  pub record Going (h w : ℕ) (start : List Float) (s : Stage) : Type 0 where
+    pub turns : ℕ
+    pub same : lastOf f h w start ≡ looped f turns s
+    pub enough : s .height ≤ turns
+    pub counted : s .narrowed + turns ≡ h
+    pub sound : Sound h w (length start) s
+
+  pub going-first : {h w : ℕ} {planes : List Float} → FitPlanes leastSide h w planes → Going h w planes (first h w planes)
+  unfolding lastOf
+  going-first {h} p = record { turns = h; same = refl; enough = omega arith; counted = omega arith; sound = sound-first p }
+
+  module _ {h w : ℕ} {start : List Float} {s : Stage} (g : Going h w start s) where
+    some : (m : ℕ) × (g .turns ≡ suc m)
+    some = go (g .turns) (g .enough)
+      where
+        go : (k : ℕ) → s .height ≤ k → (m : ℕ) × (k ≡ suc m)
+        go zero l = absurd (omega (arith, g .sound .fit .sides .low-h))
+        go (suc k) l = (k, refl)
+
+    -- one turn of the definition
+    here : lastOf f h w start ≡ turn f (looped f (some .0)) s
+    here = rw (some .1) at (g .same)
+
+    pub going-end : thin (s .height) (s .width) (boundsIn s) ≡ false → lastOf f h w start ≡ record { stage = s; tooSmall = false }
+    going-end p = rw p at here
+
+    pub going-small : thin (s .height) (s .width) (boundsIn s) ≡ true → small (s .height / f) (s .width / f) ≡ true
+        → lastOf f h w start ≡ record { stage = next f s; tooSmall = true }
+    going-small p q = rw (p, q) at here
+
+    pub going-on : thin (s .height) (s .width) (boundsIn s) ≡ true → small (s .height / f) (s .width / f) ≡ false → Going h w start (next f s)
+    going-on p q =
+        record {
+          turns = some .0;
+          same = rw (p, q) at here;
+          enough = omega (arith, g .enough, some .1, div-lt-self {n = s .height} {k = f} (omega (arith, g .sound .fit .sides .low-h)) (omega (arith, two)));
+          counted = omega (arith, g .counted, some .1);
+          sound = sound-next (g .sound) q;
+        }
+
+    -- what the code hands back on each way out
+    pub narrows-end : {b : Bounds} → b ≡ boundsIn s → thin (s .height) (s .width) b ≡ false
+        → Narrows (lastOf f h w start) (record { height = s .height; width = s .width; narrowed = s .narrowed; small = false; bounds = b }) (s .planes)
+    narrows-end e p =
+        let q = going-end (rw e at p) in
+        record { height-is = rw q; width-is = rw q; narrowed-is = rw q; small-is = rw q; planes-are = rw q; bounds-are = λ z. rw q e }
+
+    pub narrows-small : {b : Bounds} {after : List Float} → thin (s .height) (s .width) (boundsIn s) ≡ true → small (s .height / f) (s .width / f) ≡ true
+        → after ≡ narrow f (s .height) (s .width) (s .planes)
+        → Narrows (lastOf f h w start) (record { height = s .height / f; width = s .width / f; narrowed = s .narrowed + 1; small = true; bounds = b }) after
+    narrows-small p q l =
+        let e = going-small p q in
+        record { height-is = rw e; width-is = rw e; narrowed-is = rw e; small-is = rw e; planes-are = rw e l; bounds-are = λ z. absurd (true≢false z) }

@@ -1,0 +1,108 @@
+// The loop of narrowings (01, "Locating", first paragraph): a screen is narrowed until both spans of its bounds are large enough, or until it is
+// too small. Definitions: specs/Loop, over the factor; the code narrows by 3. Laws for callers: proofs/Turns.
+ghost use mathlib.Core.Path.{_≡_};
+ghost use Prim.Native.Nat.{_*_, _≤_};
+ghost use lib.ListN.{length};
+ghost use Rattle.board.specs.Board.{leastPlaneSide, leastSide};
+ghost use Rattle.board.specs.Planes.{FitPlanes};
+ghost use Rattle.narrowings.specs.Loop as Spec;
+ghost use Rattle.narrowings.specs.Loop.{first, boundsIn, lastOf};
+ghost use Rattle.narrowings.specs.Steps.{Looks, Narrows};
+use board::Bounds;
+
+// Row or column of a screen that is too small is at most this.
+const SMALL: usize = 64;
+
+// Whether a span of the bounds is at most a third of row or column.
+fn thin(height: usize, width: usize, b: Bounds) -> bool
+    requires { ⌜ (2 ≤ height) × (2 ≤ width) × (b .«r_1» ≤ b .«r_2») × (b .«c_1» ≤ b .«c_2») ⌝ }
+    ensures { λ r. ⌜ r ≡ Spec.thin height width b ⌝ }
+{
+    if b.r_2 - b.r_1 <= (height - 2) / 3 {
+        return true;
+    }
+    b.c_2 - b.c_1 <= (width - 2) / 3
+}
+
+// Whether row or column is at most 64.
+fn small(height: usize, width: usize) -> bool
+    requires { ⌜ (2 ≤ height) × (2 ≤ width) ⌝ }
+    ensures { λ r. ⌜ r ≡ Spec.small height width ⌝ }
+{
+    if height - 2 <= SMALL {
+        return true;
+    }
+    width - 2 <= SMALL
+}
+
+// Gradient, edges and bounds of a screen. The gradients go into `scratch`, the edge picture to the front of `edges`.
+pub fn look(
+    height: usize,
+    width: usize,
+    planes: &[f32],
+    scratch: &mut [f32],
+    edges: &mut [u8],
+) -> Bounds
+    requires { ⌜ FitPlanes leastPlaneSide height width (now planes) ⌝ }
+    requires { ⌜ (height * width ≤ length (now scratch)) × (height * width ≤ length (now edges)) ⌝ }
+    ensures { λ r. ⌜ Looks (first height width (now (planes .entry))) (now (edges .entry)) r (now (edges .exit)) ⌝ }
+{
+    gradient::gradient_of(height, width, planes, scratch);
+    let row = height - 2;
+    let column = width - 2;
+    let n = row * column;
+    edges::edges_of(row, column, &scratch[..n], edges);
+    bounds::get_r12c12(&edges[..n], row, column)
+}
+
+// Where the loop ends: the sides of the last picture, how often the screen was narrowed, whether it got too small, and the bounds of that
+// picture otherwise.
+pub struct Narrowed {
+    pub height: usize,
+    pub width: usize,
+    pub narrowed: u32,
+    pub small: bool,
+    pub bounds: Bounds,
+}
+
+// Narrows the screen until both spans of its bounds are large enough. `start` are the bounds of the screen as it is.
+pub fn narrow_on(
+    height: usize,
+    width: usize,
+    start: Bounds,
+    planes: &mut [f32],
+    scratch_f32: &mut [f32],
+    scratch_u8: &mut [u8],
+) -> Narrowed
+    requires { ⌜ FitPlanes leastSide height width (now planes) × (start ≡ boundsIn (first height width (now planes))) ⌝ }
+    requires { ⌜ (height * width ≤ length (now «scratch_f32»)) × (height * width ≤ length (now «scratch_u8»)) ⌝ }
+    ensures { λ r. ⌜ Narrows (lastOf 3 height width (now (planes .entry))) r (now (planes .exit)) ⌝ }
+{
+    let mut h = height;
+    let mut w = width;
+    let mut b = start;
+    let mut n: u32 = 0;
+    while thin(h, w, b) {
+        narrow::narrow(h, w, planes, scratch_f32);
+        h = h / 3;
+        w = w / 3;
+        n = n + 1;
+        if small(h, w) {
+            return Narrowed {
+                height: h,
+                width: w,
+                narrowed: n,
+                small: true,
+                bounds: b,
+            };
+        }
+        b = look(h, w, planes, scratch_f32, scratch_u8);
+    }
+    Narrowed {
+        height: h,
+        width: w,
+        narrowed: n,
+        small: false,
+        bounds: b,
+    }
+}
