@@ -1,7 +1,7 @@
 -- The square of a point in a list of planes: its sums by the places of the list, and that they are numbers where the values are units. Assumes nothing.
 use Prim.Native.Nat.{ℕ, _+_, _-_, _*_, _≤_, _<_}
 use mathlib.Core.Path.{_≡_, ap, fun-ext, _∙_}
-use mathlib.Core.Bool.{true, false}
+use mathlib.Core.Bool.{true}
 use mathlib.Core.List.{List}
 use native.Mathlib.Nat.{add-zero, add-mul}
 use native.Mathlib.Omega.{arith}
@@ -11,9 +11,9 @@ use lib.ListN.{getD}
 use Rattle.lists.specs.Picture.{flip}
 use Rattle.binary32.specs.Binary32.{unit, magnitude, larger}
 use Rattle.binary32.proofs.Numbers.{Number, add-number, sub-number, finite-number, neg-finite, unit-finite}
-use Rattle.board.specs.Board.{leastPlaneSide, sidesOutside}
+use Rattle.board.specs.Board.{leastPlaneSide}
+use Rattle.board.specs.Planes.{SidesIn}
 use Rattle.board.specs.Screen.{view}
-use Rattle.board.proofs.Sides.{sides-in}
 use Rattle.gradient.specs.Gradient.{difference, rowSum, steeper, gradientAt, square, UnitsTo}
 
 -- ---- where a square stands
@@ -84,10 +84,10 @@ pub record Place (h w i j : ℕ) : Type 0 where
   pub point-in : i * (w - 2) + j < (h - 2) * (w - 2)
   pub area : h * w ≤ 16777216
 
-pub place : (h w i j : ℕ) → sidesOutside leastPlaneSide h w ≡ false → i < h - 2 → j < w - 2 → Place h w i j
+pub place : (h w i j : ℕ) → SidesIn leastPlaneSide h w → i < h - 2 → j < w - 2 → Place h w i j
 place h w i j s a b =
     let d : (i + 2) * w + (j + 2) < h * w = digits-lt (omega arith) (omega arith) in
-    record { square-in = omega (arith, d, add-mul i 2 w); point-in = digits-lt a b; area = sides-in leastPlaneSide h w s .area }
+    record { square-in = omega (arith, d, add-mul i 2 w); point-in = digits-lt a b; area = s .area }
 
 -- ---- units give numbers
 
