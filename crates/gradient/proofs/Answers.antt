@@ -29,6 +29,6 @@ module _ (h w : ℕ) (planes out : List Float) where
   pub refused : (n : ℕ) → n ≡ planesAnswer leastPlaneSide h w planes short → (n ≡ 0 → ⊥) → GradientGives h w planes out n out
   refused n e z = record { answer-is = e; out-is = rw (ne-eqb n 0 z) front-none }
 
-  pub worked : (n : ℕ) → n ≡ planesAnswer leastPlaneSide h w planes short → n ≡ 0 → (after : List Float) → AtFront (gradients h w planes) out after
-      → GradientGives h w planes out 0 after
+  pub worked : (n : ℕ) → n ≡ planesAnswer leastPlaneSide h w planes short → n ≡ 0
+      → (after : List Float) → AtFront (gradients h w planes) out after → GradientGives h w planes out 0 after
   worked n e z after f = record { answer-is = sym z ∙ e; out-is = f }

@@ -1,4 +1,5 @@
--- What callers know of the gradients: how many there are, that they take no more room than a plane, and that each is a plain value where the planes hold units. Assumes nothing.
+-- What callers know of the gradients: how many there are, that they take no more room than a plane, and that
+-- each is a plain value where the planes hold units. Assumes nothing.
 use Prim.Native.Nat.{ℕ, _+_, _-_, _*_, _/_, _%_, _≤_, _<_}
 use mathlib.Core.Path.{_≡_, sym}
 use mathlib.Core.List.{List}

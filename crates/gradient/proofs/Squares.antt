@@ -1,4 +1,5 @@
--- The square of a point in a list of planes: its sums by the places of the list, and that they are numbers where the values are units. Assumes nothing.
+-- The square of a point in a list of planes: its sums by the places of the list, and that they are numbers where the values are
+-- units. Assumes nothing.
 use Prim.Native.Nat.{ℕ, _+_, _-_, _*_, _≤_, _<_}
 use mathlib.Core.Path.{_≡_, ap, fun-ext, _∙_}
 use mathlib.Core.Bool.{true}
@@ -29,7 +30,8 @@ steeper-moved a i j best = rw (row-moved a i j, row-moved (flip a) j i)
 -- the sum of the square at `at`, value by value
 pub square-sum : (p : List Float) (at down right : ℕ)
     → let low = at + 2 * down in
-    difference (getD p at nan) (getD p (at + right) nan) (getD p (at + 2 * right) nan) (getD p low nan) (getD p (low + right) nan) (getD p (low + 2 * right) nan)
+    difference (getD p at nan) (getD p (at + right) nan) (getD p (at + 2 * right) nan)
+        (getD p low nan) (getD p (low + right) nan) (getD p (low + 2 * right) nan)
     ≡ rowSum (square p at down right) 0 0
 unfolding rowSum
 square-sum p at down right =
@@ -46,7 +48,8 @@ square-flip : (p : List Float) (at down right : ℕ) → flip (square p at down 
 square-flip p at down right = fun-ext (λ i. fun-ext (λ j. ap (λ (k : ℕ). getD p k nan) (omega arith)))
 
 pub steeper-is : (p : List Float) (at w : ℕ) (best : Float)
-    → steeper (square p at w 1) 0 0 best ≡ larger (larger best (magnitude (rowSum (square p at w 1) 0 0))) (magnitude (rowSum (square p at 1 w) 0 0))
+    → steeper (square p at w 1) 0 0 best
+    ≡ larger (larger best (magnitude (rowSum (square p at w 1) 0 0))) (magnitude (rowSum (square p at 1 w) 0 0))
 unfolding steeper
 steeper-is p at w best =
     let across = larger best (magnitude (rowSum (square p at w 1) 0 0)) in
@@ -104,7 +107,8 @@ difference-number a b c d e f ua ub uc ud ue uf =
     (unit-finite f uf)
 
 -- the sum of a square of units is a number
-pub square-number : (p : List Float) (at down right : ℕ) → UnitsTo p (at + (2 * down + 2 * right)) → Number (rowSum (square p at down right) 0 0)
+pub square-number : (p : List Float) (at down right : ℕ) → UnitsTo p (at + (2 * down + 2 * right))
+    → Number (rowSum (square p at down right) 0 0)
 square-number p at down right u =
     let low = at + 2 * down in
     rw (square-sum p at down right) at

@@ -41,7 +41,7 @@ gradientAt px i j = steeper (px 2) i j (steeper (px 1) i j (steeper (px 0) i j (
 abbrev pub gradients : ℕ → ℕ → List Float → List Float
 gradients h w planes = grid (h - 2) (w - 2) (gradientAt (view h w planes .px))
 
--- what a call with these planes answers, and what the output holds before and after: the gradients at its front, or on a refusal nothing new
+-- what a call with these planes answers, and what the output holds before and after: the gradients at its front, on a refusal nothing new
 pub record GradientGives (h w : ℕ) (planes before : List Float) (answer : ℕ) (after : List Float) : Type 0 where
   pub answer-is : answer ≡ planesAnswer leastPlaneSide h w planes (ltb (length before) ((h - 2) * (w - 2)))
   pub out-is : AtFront (cond (eqb answer 0) (gradients h w planes) []) before after

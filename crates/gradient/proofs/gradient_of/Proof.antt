@@ -1,5 +1,5 @@
--- `gradient::gradient_of` meets its contract. The invariants: the rows before stand at the front, and this row stands behind them up to column j.
--- The rows and the columns that are left fall.
+-- `gradient::gradient_of` meets its contract. The invariants: the rows before stand at the front, and this row stands behind them
+-- up to column j. The rows and the columns that are left fall.
 use Prim.Native.Nat.{_-_, _*_, _≤_}
 use mathlib.Core.Path.{_≡_, sym, _∙_}
 use native.Mathlib.Nat.{zero-mul}
@@ -88,9 +88,10 @@ loop2-again : tie.Need-loop2-again Inv-loop2 μ-loop2 Inv-loop μ-loop
 loop2-again c =
     let at = at-row (c .before) in
     let a = at-start at .args in
-    let turn = c .before .before .loop2 in (
+    let turn = c .before .before .loop2 in
+    let value = gradientAt (view (a .height) (a .width) (now (a .planes)) .px) (at .loop .i) in (
       omega arith,
-      placed-more (gradientAt (view (a .height) (a .width) (now (a .planes)) .px) (at .loop .i)) _ (turn .inv .1) (omega (arith, here (c .before) .point-in))
+      placed-more value _ (turn .inv .1) (omega (arith, here (c .before) .point-in))
           (c .steepest .ensures ∙ sym (gradient-at (a .height) (a .width) (now (a .planes)) (at .loop .i) (turn .j))),
     )
 
