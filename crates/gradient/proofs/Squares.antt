@@ -1,7 +1,8 @@
--- The square of a point in a list of planes: its sums by the places of the list, and that they are numbers where the values are units. Assumes nothing.
+-- The square of a point in a list of planes: its sums by the places of the list, and that they are numbers where the values are
+-- units. Assumes nothing.
 use Prim.Native.Nat.{ℕ, _+_, _-_, _*_, _≤_, _<_}
 use mathlib.Core.Path.{_≡_, ap, fun-ext, _∙_}
-use mathlib.Core.Bool.{true, false}
+use mathlib.Core.Bool.{true}
 use mathlib.Core.List.{List}
 use native.Mathlib.Nat.{add-zero, add-mul}
 use native.Mathlib.Omega.{arith}
@@ -11,9 +12,9 @@ use lib.ListN.{getD}
 use Rattle.lists.specs.Picture.{flip}
 use Rattle.binary32.specs.Binary32.{unit, magnitude, larger}
 use Rattle.binary32.proofs.Numbers.{Number, add-number, sub-number, finite-number, neg-finite, unit-finite}
-use Rattle.board.specs.Board.{leastPlaneSide, sidesOutside}
+use Rattle.board.specs.Board.{leastPlaneSide}
+use Rattle.board.specs.Planes.{SidesIn}
 use Rattle.board.specs.Screen.{view}
-use Rattle.board.proofs.Sides.{sides-in}
 use Rattle.gradient.specs.Gradient.{difference, rowSum, steeper, gradientAt, square, UnitsTo}
 
 -- ---- where a square stands
@@ -29,7 +30,8 @@ steeper-moved a i j best = rw (row-moved a i j, row-moved (flip a) j i)
 -- the sum of the square at `at`, value by value
 pub square-sum : (p : List Float) (at down right : ℕ)
     → let low = at + 2 * down in
-    difference (getD p at nan) (getD p (at + right) nan) (getD p (at + 2 * right) nan) (getD p low nan) (getD p (low + right) nan) (getD p (low + 2 * right) nan)
+    difference (getD p at nan) (getD p (at + right) nan) (getD p (at + 2 * right) nan)
+        (getD p low nan) (getD p (low + right) nan) (getD p (low + 2 * right) nan)
     ≡ rowSum (square p at down right) 0 0
 unfolding rowSum
 square-sum p at down right =
@@ -46,7 +48,8 @@ square-flip : (p : List Float) (at down right : ℕ) → flip (square p at down 
 square-flip p at down right = fun-ext (λ i. fun-ext (λ j. ap (λ (k : ℕ). getD p k nan) (omega arith)))
 
 pub steeper-is : (p : List Float) (at w : ℕ) (best : Float)
-    → steeper (square p at w 1) 0 0 best ≡ larger (larger best (magnitude (rowSum (square p at w 1) 0 0))) (magnitude (rowSum (square p at 1 w) 0 0))
+    → steeper (square p at w 1) 0 0 best
+    ≡ larger (larger best (magnitude (rowSum (square p at w 1) 0 0))) (magnitude (rowSum (square p at 1 w) 0 0))
 unfolding steeper
 steeper-is p at w best =
     let across = larger best (magnitude (rowSum (square p at w 1) 0 0)) in
@@ -84,10 +87,10 @@ pub record Place (h w i j : ℕ) : Type 0 where
   pub point-in : i * (w - 2) + j < (h - 2) * (w - 2)
   pub area : h * w ≤ 16777216
 
-pub place : (h w i j : ℕ) → sidesOutside leastPlaneSide h w ≡ false → i < h - 2 → j < w - 2 → Place h w i j
+pub place : (h w i j : ℕ) → SidesIn leastPlaneSide h w → i < h - 2 → j < w - 2 → Place h w i j
 place h w i j s a b =
     let d : (i + 2) * w + (j + 2) < h * w = digits-lt (omega arith) (omega arith) in
-    record { square-in = omega (arith, d, add-mul i 2 w); point-in = digits-lt a b; area = sides-in leastPlaneSide h w s .area }
+    record { square-in = omega (arith, d, add-mul i 2 w); point-in = digits-lt a b; area = s .area }
 
 -- ---- units give numbers
 
@@ -104,7 +107,8 @@ difference-number a b c d e f ua ub uc ud ue uf =
     (unit-finite f uf)
 
 -- the sum of a square of units is a number
-pub square-number : (p : List Float) (at down right : ℕ) → UnitsTo p (at + (2 * down + 2 * right)) → Number (rowSum (square p at down right) 0 0)
+pub square-number : (p : List Float) (at down right : ℕ) → UnitsTo p (at + (2 * down + 2 * right))
+    → Number (rowSum (square p at down right) 0 0)
 square-number p at down right u =
     let low = at + 2 * down in
     rw (square-sum p at down right) at

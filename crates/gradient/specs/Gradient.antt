@@ -1,16 +1,17 @@
 -- 01, "Gradient and threshold", first paragraph, and the gradient's refusals. All sums are binary32, rounded one operation at a time.
 use Prim.Native.Nat.{ℕ, _+_, _-_, _*_, _≤_}
-use mathlib.Core.Bool.{Bool, true, not, cond, _||_}
-use mathlib.Core.List.{List, _++_}
+use mathlib.Core.Bool.{true, cond}
+use mathlib.Core.List.{List, []}
 use mathlib.Core.Path.{_≡_}
 use lib.Dec.{eqb, ltb}
 use lib.Ieee.{Float, nan, binary32, neg, add, sub, ofBits}
-use lib.ListN.{length, getD, take, drop}
+use lib.ListN.{length, getD}
+use Rattle.lists.specs.Front.{AtFront}
 use Rattle.lists.specs.Tab.{grid}
 use Rattle.lists.specs.Picture.{flip}
 use Rattle.binary32.specs.Binary32.{unit, magnitude, larger}
-use Rattle.board.specs.Board.{leastPlaneSide, sidesOutside}
-use Rattle.board.specs.Planes.{allUnits}
+use Rattle.board.specs.Board.{leastPlaneSide}
+use Rattle.board.specs.Planes.{planesAnswer}
 use Rattle.board.specs.Screen.{view}
 
 -- −a − b − c + d + e + f, left to right
@@ -40,30 +41,10 @@ gradientAt px i j = steeper (px 2) i j (steeper (px 1) i j (steeper (px 0) i j (
 abbrev pub gradients : ℕ → ℕ → List Float → List Float
 gradients h w planes = grid (h - 2) (w - 2) (gradientAt (view h w planes .px))
 
--- ---- the call, and its refusals
-
--- planes or output short (refusal 3), for `len` plane values and `room` entries of output
-abbrev pub short : ℕ → ℕ → ℕ → ℕ → Bool
-short h w len room = ltb len (3 * (h * w)) || ltb room ((h - 2) * (w - 2))
-
--- the answer, for `room` entries of output
-unfoldable pub gradientAnswer : ℕ → ℕ → List Float → ℕ → ℕ
-unfolding sidesOutside
-gradientAnswer h w planes room =
-    cond (sidesOutside leastPlaneSide h w) 1
-    (cond (short h w (length planes) room) 3
-    (cond (not (allUnits (take (3 * (h * w)) planes))) 4 0))
-
--- the output afterwards: the gradients, then what was there; as it was on a refusal
-unfoldable pub gradientOut : ℕ → ℕ → List Float → List Float → List Float
-unfolding gradientAnswer
-gradientOut h w planes out =
-    cond (eqb (gradientAnswer h w planes (length out)) 0) (gradients h w planes ++ drop ((h - 2) * (w - 2)) out) out
-
--- what a call with these planes and this output answers and leaves
-pub record GradientGives (h w : ℕ) (planes out : List Float) (answer : ℕ) (left : List Float) : Type 0 where
-  pub answer-is : answer ≡ gradientAnswer h w planes (length out)
-  pub out-is : left ≡ gradientOut h w planes out
+-- what a call with these planes answers, and what the output holds before and after: the gradients at its front, on a refusal nothing new
+pub record GradientGives (h w : ℕ) (planes before : List Float) (answer : ℕ) (after : List Float) : Type 0 where
+  pub answer-is : answer ≡ planesAnswer leastPlaneSide h w planes (ltb (length before) ((h - 2) * (w - 2)))
+  pub out-is : AtFront (cond (eqb answer 0) (gradients h w planes) []) before after
 
 -- ---- for the contracts inside
 

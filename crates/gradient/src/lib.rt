@@ -1,15 +1,16 @@
 // Gradient of three planes: the largest of six magnitudes at each point (01, "Gradient and threshold"). The call refuses 1, 3 and 4.
 // Definitions: specs/Gradient. Laws for callers: proofs/Laws.
 ghost use mathlib.Core.Path.{_≡_};
-ghost use mathlib.Core.Bool.{true, false, cond};
-ghost use mathlib.Core.List.{_++_};
+ghost use mathlib.Core.Bool.{true, false};
 ghost use Prim.Native.Nat.{_+_, _-_, _*_, _≤_, _<_};
-ghost use lib.ListN.{length, take, drop};
+ghost use lib.Dec.{ltb};
+ghost use lib.ListN.{length, take};
+ghost use Rattle.lists.specs.Front.{AtFront};
 ghost use Rattle.binary32.specs.Binary32.{magnitude};
 ghost use Rattle.board.specs.Board.{leastPlaneSide, sidesOutside};
+ghost use Rattle.board.specs.Planes.{allUnits, FitPlanes};
 ghost use Rattle.gradient.specs.Gradient as Spec;
-ghost use Rattle.board.specs.Planes.{allUnits};
-ghost use Rattle.gradient.specs.Gradient.{square, rowSum, gradientAt, gradients, short, UnitsTo, GradientGives};
+ghost use Rattle.gradient.specs.Gradient.{square, rowSum, gradientAt, gradients, UnitsTo, GradientGives};
 use board::Board;
 
 fn difference(a: f32, b: f32, c: f32, d: f32, e: f32, f: f32) -> f32
@@ -57,12 +58,10 @@ fn steepest(p: &[f32], n: usize, width: usize, at: usize) -> f32
     steeper(p, 2 * n + at, width, second)
 }
 
-// The gradients of planes that are known to be units.
+// The gradients of planes that are known to be fit.
 pub fn gradient_of(height: usize, width: usize, planes: &[f32], out: &mut [f32])
-    requires { ⌜ sidesOutside leastPlaneSide height width ≡ false ⌝ }
-    requires { ⌜ (3 * (height * width) ≤ length (now planes)) × ((height - 2) * (width - 2) ≤ length (now out)) ⌝ }
-    requires { ⌜ allUnits (take (3 * (height * width)) (now planes)) ≡ true ⌝ }
-    ensures { λ _. ⌜ now (out .exit) ≡ gradients height width (now (planes .entry)) ++ drop ((height - 2) * (width - 2)) (now (out .entry)) ⌝ }
+    requires { ⌜ FitPlanes leastPlaneSide height width (now planes) × ((height - 2) * (width - 2) ≤ length (now out)) ⌝ }
+    ensures { λ _. ⌜ AtFront (gradients height width (now (planes .entry))) (now (out .entry)) (now (out .exit)) ⌝ }
 {
     let row = height - 2;
     let column = width - 2;
@@ -73,33 +72,25 @@ pub fn gradient_of(height: usize, width: usize, planes: &[f32], out: &mut [f32])
     }
 }
 
-// Refusal 1 or 3, or 0: for `len` plane values and `room` entries of output.
-fn fit(height: usize, width: usize, len: usize, room: usize) -> u32
-    ensures { λ r. ⌜ r ≡ cond (sidesOutside leastPlaneSide height width) 1 (cond (short height width len room) 3 0) ⌝ }
+// Whether `room` entries are too few for the gradients. The sides are tested first: outside the limits their product could wrap.
+fn room_short(height: usize, width: usize, room: usize) -> bool
+    ensures { λ r. ⌜ (sidesOutside leastPlaneSide height width ≡ false → r ≡ ltb room ((height - 2) * (width - 2))) ⌝ }
 {
     if board::sides_outside(Board::LEAST_PLANE_SIDE, height, width) {
-        return 1;
+        return false;
     }
-    if len < 3 * (height * width) {
-        return 3;
-    }
-    if room < (height - 2) * (width - 2) {
-        return 3;
-    }
-    0
+    room < (height - 2) * (width - 2)
 }
 
 // Gradient of three planes into `out`, rows first. Refuses 1, 3 and 4; then nothing is written.
 pub fn get_gradient(height: usize, width: usize, planes: &[f32], out: &mut [f32]) -> u32
     ensures { λ r. ⌜ GradientGives height width (now (planes .entry)) (now (out .entry)) r (now (out .exit)) ⌝ }
 {
-    let refusal = fit(height, width, planes.len(), out.len());
-    if refusal != 0 {
-        return refusal;
-    }
-    if board::all_units(planes, 3 * (height * width)) {
+    let short = room_short(height, width, out.len());
+    let answer = board::planes_answer(Board::LEAST_PLANE_SIDE, height, width, planes, short);
+    if answer == 0 {
         gradient_of(height, width, planes, out);
         return 0;
     }
-    4
+    answer
 }

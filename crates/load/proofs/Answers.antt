@@ -6,6 +6,7 @@ use borrow.Author.Tests.{ltb-false, ne-eqb}
 use lib.Dec.{ltb}
 use lib.Ieee.{Float}
 use lib.ListN.{length}
+use Rattle.lists.proofs.Front.{front-none}
 use Rattle.board.specs.Board.{leastSide, sidesOutside, blank}
 use Rattle.board.specs.Planes.{SidesIn}
 use Rattle.board.proofs.Sides.{sides-in, passed}
@@ -25,6 +26,8 @@ fit h w pixels planes e =
     let c = passed (ltb planes (3 * (h * w))) 2 _ (b .1) in
     record { sides = sides-in leastSide h w (a .0); pixels-in = ltb-false _ _ (b .0); planes-in = ltb-false _ _ (c .0) }
 
-pub refuses : (top : Float) (h w : ℕ) (pixels : List ℕ) (planes : List Float) (r : Loaded) → r .answer ≡ loadAnswer h w (length pixels) (length planes) → (r .answer ≡ 0 → ⊥) → r .board ≡ blank → LoadGives top h w pixels planes r planes
+pub refuses : (top h w : ℕ) (pixels : List ℕ) (planes : List Float) (r : Loaded)
+    → r .answer ≡ loadAnswer h w (length pixels) (length planes)
+    → (r .answer ≡ 0 → ⊥) → r .board ≡ blank → LoadGives top h w pixels planes r planes
 refuses top h w pixels planes r a n b =
-    record { answer-is = a; board-is = rw (ne-eqb (r .answer) 0 n) b; planes-are = rw (ne-eqb (r .answer) 0 n) }
+    record { answer-is = a; board-is = rw (ne-eqb (r .answer) 0 n) b; planes-are = rw (ne-eqb (r .answer) 0 n) front-none }

@@ -1,3 +1,5 @@
 pub mod Answers
+pub mod Laws
 pub mod Planes
 pub mod Shown
+pub mod Units

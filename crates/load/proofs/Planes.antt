@@ -1,5 +1,5 @@
 -- Three planes of n values that are filled together, one place of each at a time. Assumes nothing.
-use Prim.Native.Nat.{ℕ, zero, suc, _+_, _-_, _*_, _/_, _%_, _≤_, _<_}
+use Prim.Native.Nat.{ℕ, zero, suc, _+_, _*_, _/_, _%_, _≤_, _<_}
 use mathlib.Core.Path.{_≡_, refl, sym, ap, _∙_}
 use mathlib.Core.List.{List, _++_}
 use mathlib.Core.Bool.{Bool, true, false}
@@ -10,15 +10,17 @@ use borrow.Author.Tests.{leb-true, leb-false}
 use lib.Dec.{leb}
 use lib.ListN.{length, set, getD, drop, length-append, length-drop, length-set}
 use lib.Seq.{getD-set-same, getD-set-other, ext-getD}
+use Rattle.lists.specs.Front.{AtFront}
 use Rattle.lists.specs.Tab.{grid}
 use Rattle.lists.proofs.Fill.{length-tabFrom, tab-within, tab-beyond}
+use Rattle.lists.proofs.Front.{front-by}
 
 module _ {A : Type 0} (z : A) (g : ℕ → ℕ → A) (n : ℕ) where
   -- the first i places of each plane have their value, and what lies past the planes is as it was
-  pub record Laid (i : ℕ) (given out : List A) : Type 0 where
-    pub len : length out ≡ length given
+  pub record Laid (i : ℕ) (before out : List A) : Type 0 where
+    pub len : length out ≡ length before
     pub done : (k p : ℕ) → k < 3 → p < i → getD out (k * n + p) z ≡ g k p
-    pub rest : (r : ℕ) → 3 * n ≤ r → getD out r z ≡ getD given r z
+    pub rest : (r : ℕ) → 3 * n ≤ r → getD out r z ≡ getD before r z
 
   pub laid-none : {d : List A} → Laid 0 d d
   laid-none = record { len = refl; done = λ k p a b. absurd (omega arith); rest = λ r h. refl }
@@ -27,9 +29,12 @@ module _ {A : Type 0} (z : A) (g : ℕ → ℕ → A) (n : ℕ) where
   abbrev three : List A → ℕ → A → A → A → List A
   three out i a b c = set (set (set out i a) (n + i) b) (2 * n + i) c
 
-  other : (out : List A) (i r : ℕ) (a b c : A) → (r ≡ i → ⊥) → (r ≡ n + i → ⊥) → (r ≡ 2 * n + i → ⊥) → getD (three out i a b c) r z ≡ getD out r z
+  other : (out : List A) (i r : ℕ) (a b c : A) → (r ≡ i → ⊥) → (r ≡ n + i → ⊥) → (r ≡ 2 * n + i → ⊥)
+      → getD (three out i a b c) r z ≡ getD out r z
   other out i r a b c p q s =
-      getD-set-other (set (set out i a) (n + i) b) (2 * n + i) r c z s ∙ getD-set-other (set out i a) (n + i) r b z q ∙ getD-set-other out i r a z p
+      getD-set-other (set (set out i a) (n + i) b) (2 * n + i) r c z s
+      ∙ getD-set-other (set out i a) (n + i) r b z q
+      ∙ getD-set-other out i r a z p
 
   module _ (out : List A) (i : ℕ) (a b c : A) (l : i < n) (fits : 3 * n ≤ length out) where
     newest : (k : ℕ) → k < 3 → a ≡ g 0 i → b ≡ g 1 i → c ≡ g 2 i → getD (three out i a b c) (k * n + i) z ≡ g k i
@@ -45,7 +50,9 @@ module _ {A : Type 0} (z : A) (g : ℕ → ℕ → A) (n : ℕ) where
         (getD-set-other (set (set out i a) (n + i) b) (2 * n + i) (n + i) c z (λ q. let x : ⊥ = omega arith in x)
         ∙ getD-set-same (set out i a) (n + i) b z (omega (arith, length-set out i a)) ∙ eb)
     newest (suc (suc zero)) h ea eb ec =
-        getD-set-same (set (set out i a) (n + i) b) (2 * n + i) c z (omega (arith, length-set (set out i a) (n + i) b, length-set out i a)) ∙ ec
+        getD-set-same (set (set out i a) (n + i) b) (2 * n + i) c z
+        (omega (arith, length-set (set out i a) (n + i) b, length-set out i a))
+        ∙ ec
     newest (suc (suc (suc k))) h ea eb ec = absurd (omega arith)
 
     older : (k p : ℕ) → k < 3 → p < i → getD (three out i a b c) (k * n + p) z ≡ getD out (k * n + p) z
@@ -54,7 +61,8 @@ module _ {A : Type 0} (z : A) (g : ℕ → ℕ → A) (n : ℕ) where
     older (suc (suc zero)) p h q = other out i (2 * n + p) a b c (λ e. omega arith) (λ e. omega arith) (λ e. omega arith)
     older (suc (suc (suc k))) p h q = absurd (omega arith)
 
-  pub laid-more : {i : ℕ} {d out : List A} {a b c : A} → Laid i d out → i < n → 3 * n ≤ length d → a ≡ g 0 i → b ≡ g 1 i → c ≡ g 2 i → Laid (i + 1) d (three out i a b c)
+  pub laid-more : {i : ℕ} {d out : List A} {a b c : A} → Laid i d out → i < n → 3 * n ≤ length d → a ≡ g 0 i → b ≡ g 1 i → c ≡ g 2 i
+      → Laid (i + 1) d (three out i a b c)
   laid-more {i} {d} {out} {a} {b} {c} h l f ea eb ec =
       let fits : 3 * n ≤ length out = omega (arith, h .len) in
       record {
@@ -68,11 +76,12 @@ module _ {A : Type 0} (z : A) (g : ℕ → ℕ → A) (n : ℕ) where
       }
 
   -- all places: the planes one after another, then what was there
-  pub laid-all : {d out : List A} → 0 < n → Laid n d out → 3 * n ≤ length d → out ≡ grid 3 n g ++ drop (3 * n) d
+  pub laid-all : {d out : List A} → 0 < n → Laid n d out → 3 * n ≤ length d → AtFront (grid 3 n g) d out
   laid-all {d} {out} pos h f =
-      ext-getD z out (grid 3 n g ++ drop (3 * n) d)
+      front-by (3 * n) (length-tabFrom 0 (3 * n) _) f
+      (ext-getD z out (grid 3 n g ++ drop (3 * n) d)
       (h .len ∙ sym (simp (length-append, length-tabFrom, length-drop) (omega arith)))
-      (λ r s. ⊎-elim (λ b. h .rest r b ∙ sym (tab-beyond z (λ k. g (k / n) (k % n)) (3 * n) r d b)) (λ b. within r b) (le-or-lt (3 * n) r))
+      (λ r s. ⊎-elim (λ b. h .rest r b ∙ sym (tab-beyond z (λ k. g (k / n) (k % n)) (3 * n) r d b)) (λ b. within r b) (le-or-lt (3 * n) r)))
     where
       le-or-lt : (a b : ℕ) → (a ≤ b) ⊎ (b < a)
       le-or-lt a b = go (leb a b) refl

@@ -1,67 +1,59 @@
--- `gradient::get_gradient` meets its contract: each way out is a law of proofs/Answers.
-use Prim.Native.Nat.{_*_}
-use mathlib.Core.Path.{_≡_, sym, _∙_}
-use mathlib.Core.Bool.{true}
-use native.Mathlib.Omega.{arith}
+-- `gradient::get_gradient` meets its contract: the answer is that of the definition, and each way out is a law of proofs/Answers.
+use Prim.Native.Nat.{_-_, _*_}
+use mathlib.Core.Path.{_≡_, _∙_}
 use denote.Ref.{now}
-use lib.ListN.{take, length}
-use Rattle.board.specs.Planes.{allUnits}
-use Rattle.gradient.proofs.Answers.{Fit, fits, unfit, no-unit, worked}
+use lib.Dec.{ltb}
+use lib.ListN.{length}
+use Rattle.board.specs.Board.{leastPlaneSide}
+use Rattle.board.specs.Planes.{planesAnswer}
+use Rattle.board.proofs.Planes.{answer-same}
+use Rattle.gradient.proofs.Answers.{fit, refused, worked}
 use borrow.Author.Needs.{needs}
 use Rattle.gradient.proofs.get_gradient.Statement.{statement}
 use Rattle.gradient.proofs.get_gradient.Tie as tie
 
-fit-requires : tie.Need-fit-requires
-fit-requires c κs = search needs
+abbrev at-start : tie.After-planes-answer → tie.Start
+at-start c = c .before .before .before .before
 
-returns : tie.Need-returns
-returns c = unfit _ _ _ _ _ (c .if1 .taken) (c .before .fit .ensures)
+-- what the answer is
+answered : (c : tie.After-planes-answer)
+    → let a = at-start c .args in
+    c .planes-answer .result
+    ≡ planesAnswer leastPlaneSide (a .height) (a .width) (now (a .planes)) (ltb (length (now (a .out))) ((a .height - 2) * (a .width - 2)))
+answered c =
+    let a = at-start c .args in
+    c .planes-answer .ensures ∙ answer-same leastPlaneSide (a .height) (a .width) (now (a .planes)) _ _ (c .before .room-short .ensures)
 
--- sides and lengths give no refusal
-here : (c : tie.Else1)
-    → let a = c .before .before .before .before .args in
-    Fit (a .height) (a .width) (length (now (a .planes))) (length (now (a .out)))
-here c = fits _ _ _ _ (sym (c .before .fit .ensures) ∙ c .if1 .left)
+room-short-requires : tie.Need-room-short-requires
+room-short-requires c κs = search needs
 
-mul-all-units : tie.Need-mul-all-units
-mul-all-units c = omega (arith, here c .area)
-
-mul-all-units-2 : tie.Need-mul-all-units-2
-mul-all-units-2 c = omega (arith, here c .area)
-
-all-units-requires : tie.Need-all-units-requires
-all-units-requires c κs = (omega (arith, here c .planes), omega (arith, here c .area))
-
--- every value is a unit
-units : (c : tie.Then2)
-    → let a = c .before .before .before .before .before .before .args in
-    allUnits (take (3 * (a .height * a .width)) (now (a .planes))) ≡ true
-units c = sym (c .before .all-units .ensures) ∙ c .if2 .taken
+planes-answer-requires : tie.Need-planes-answer-requires
+planes-answer-requires c κs = search needs
 
 gradient-of-requires : tie.Need-gradient-of-requires
-gradient-of-requires c κs = let f = here (c .before .before .before) in (f .sides, ((f .planes, f .output), units (c .before)))
+gradient-of-requires c κs =
+    let then = c .before in
+    fit _ _ _ (now (at-start (then .before) .args .out)) _ (answered (then .before)) (then .if1 .taken)
 
 same-length : tie.Need-same-length
 same-length c = search needs
 
-returns-2 : tie.Need-returns-2
-returns-2 c =
-    let then = c .before .before .before .before in
-    worked _ _ _ _ _ (here (then .before .before)) (units then) (c .before .before .gradient-of .ensures)
+returns : tie.Need-returns
+returns c =
+    let wrote = c .before .before in
+    let then = wrote .before .before in
+    worked _ _ _ _ _ (answered (then .before)) (then .if1 .taken) _ (wrote .gradient-of .ensures)
 
-returns-3 : tie.Need-returns-3
-returns-3 c = no-unit _ _ _ _ (here (c .before .before)) (sym (c .before .all-units .ensures) ∙ c .if2 .left)
+returns-2 : tie.Need-returns-2
+returns-2 c = refused _ _ _ _ _ (answered (c .before)) (c .if1 .left)
 
 pub get-gradient-spec : {M : Type 1} → statement M
 get-gradient-spec =
     tie.close
     (tie.spec
-    fit-requires
-    returns
-    mul-all-units
-    mul-all-units-2
-    all-units-requires
+    room-short-requires
+    planes-answer-requires
     gradient-of-requires
     same-length
-    returns-2
-    returns-3)
+    returns
+    returns-2)

@@ -1,7 +1,9 @@
-use mathlib.Core.Path.{sym, _∙_}
+-- `load::load_answer` meets its contract: each way out is the first test that fails, and within the limits no product wraps.
+use mathlib.Core.Path.{_≡_, sym, _∙_}
+use mathlib.Core.Bool.{false}
 use native.Mathlib.Omega.{arith}
 use borrow.Author.Tests.{lt-ltb, le-ltb}
-use Rattle.board.specs.Board.{leastSide}
+use Rattle.board.specs.Board.{leastSide, sidesOutside}
 use Rattle.board.specs.Planes.{SidesIn}
 use Rattle.board.proofs.Sides.{sides-in}
 use Rattle.load.specs.Load.{loadAnswer}
@@ -17,8 +19,11 @@ unfolding loadAnswer
 returns c = rw (sym (c .before .sides-outside .ensures) ∙ c .if1 .taken)
 
 -- the sides are within the limits
+in-limits : (c : tie.Else1) → sidesOutside leastSide (c .before .before .args .height) (c .before .before .args .width) ≡ false
+in-limits c = sym (c .before .sides-outside .ensures) ∙ c .if1 .left
+
 here : (c : tie.Else1) → SidesIn leastSide (c .before .before .args .height) (c .before .before .args .width)
-here c = sides-in leastSide _ _ (sym (c .before .sides-outside .ensures) ∙ c .if1 .left)
+here c = sides-in leastSide _ _ (in-limits c)
 
 mul-n : tie.Need-mul-n
 mul-n c = omega (arith, here c .area)
@@ -28,18 +33,18 @@ mul-if2 c = omega (arith, here c .area)
 
 returns-2 : tie.Need-returns-2
 unfolding loadAnswer
-returns-2 c = rw (sym (c .before .before .sides-outside .ensures) ∙ c .before .if1 .left, lt-ltb _ _ (c .if2 .taken))
+returns-2 c = rw (in-limits (c .before), lt-ltb _ _ (c .if2 .taken))
 
 mul-if3 : tie.Need-mul-if3
 mul-if3 c = search needs
 
 returns-3 : tie.Need-returns-3
 unfolding loadAnswer
-returns-3 c = rw (sym (c .before .before .before .sides-outside .ensures) ∙ c .before .before .if1 .left, le-ltb _ _ (c .before .if2 .left), lt-ltb _ _ (c .if3 .taken))
+returns-3 c = rw (in-limits (c .before .before), le-ltb _ _ (c .before .if2 .left), lt-ltb _ _ (c .if3 .taken))
 
 returns-4 : tie.Need-returns-4
 unfolding loadAnswer
-returns-4 c = rw (sym (c .before .before .before .sides-outside .ensures) ∙ c .before .before .if1 .left, le-ltb _ _ (c .before .if2 .left), le-ltb _ _ (c .if3 .left))
+returns-4 c = rw (in-limits (c .before .before), le-ltb _ _ (c .before .if2 .left), le-ltb _ _ (c .if3 .left))
 
 pub load-answer-spec : {M : Type 1} → statement M
 load-answer-spec =

@@ -1,4 +1,5 @@
--- `load::load_planes` meets its contract. The invariant: the first i places of each plane have their value. What is left of the places falls.
+-- `load::load_planes` meets its contract. The invariant: the first i places of each plane have their value.
+-- What is left of the places falls.
 use Prim.Native.Nat.{_-_, _*_, _≤_}
 use mathlib.Core.Path.{_≡_, _∙_}
 use native.Mathlib.Omega.{arith}
@@ -6,7 +7,7 @@ use native.Mathlib.Nat.{mul-pos}
 use denote.Ref.{now}
 use lib.Ieee.{nan}
 use lib.ListN.{length-set}
-use Rattle.load.specs.Load.{ofByte}
+use Rattle.load.specs.Load.{mostByte}
 use Rattle.load.proofs.Planes.{Laid, laid-none, laid-more, laid-all}
 use Rattle.load.proofs.Shown.{valueAt, value-is}
 use borrow.Author.Needs.{needs}
@@ -14,10 +15,17 @@ use Rattle.load.proofs.load_planes.Statement.{statement}
 use Rattle.load.proofs.load_planes.Tie as tie
 
 abbrev Inv-loop : tie.InvT-loop
-Inv-loop height width pixels planes₀ n i₀ planes i = (i ≤ n) × Laid nan (valueAt ofByte height width pixels) n i planes₀ planes
+Inv-loop height width pixels planes₀ n i₀ planes i = (i ≤ n) × Laid nan (valueAt mostByte height width pixels) n i planes₀ planes
 
 abbrev μ-loop : tie.MeasureT-loop
 μ-loop height width pixels planes₀ n i₀ planes i = n - i
+
+-- the places that the others follow
+abbrev at-start : tie.At-loop Inv-loop μ-loop → tie.Start Inv-loop μ-loop
+at-start c = c .before .before .before
+
+abbrev at-turn : tie.After-pixel Inv-loop μ-loop → tie.At-loop Inv-loop μ-loop
+at-turn c = c .before .before
 
 mul-n : tie.Need-mul-n Inv-loop μ-loop
 mul-n c = search needs
@@ -84,16 +92,16 @@ loop-less c = search needs
 
 loop-again : tie.Need-loop-again Inv-loop μ-loop
 loop-again c =
-    let a = c .before .before .before .before .before .before .before .before .args in
-    let fit = c .before .before .before .before .before .before .before .before .pre in
-    let at = c .before .before .before .before .before .loop in
-    let pixel = c .before .before .before .pixel .ensures in
-    let value = value-is ofByte (a .height) (a .width) (now (a .pixels)) in (
+    let read = c .before .before .before in
+    let at = at-turn read in
+    let a = at-start at .args in
+    let pixel = read .pixel .ensures in
+    let value = value-is mostByte (a .height) (a .width) (now (a .pixels)) in (
       omega arith,
-      laid-more nan _ _ (at .inv .1) (c .before .before .before .before .loop-test .taken) (fit .3)
-          (c .before .before .level .ensures ∙ value 0 (at .i) _ _ (pixel .red-in) (omega arith))
-          (c .before .level2 .ensures ∙ value 1 (at .i) _ _ (pixel .green-in) (omega arith))
-          (c .level3 .ensures ∙ value 2 (at .i) _ _ (pixel .blue-in) (omega arith)),
+      laid-more nan _ _ (at .loop .inv .1) (read .before .loop-test .taken) (at-start at .pre .1 .1)
+          (c .before .before .level .ensures ∙ value 0 (at .loop .i) _ _ (pixel .red-in) (omega arith))
+          (c .before .level2 .ensures ∙ value 1 (at .loop .i) _ _ (pixel .green-in) (omega arith))
+          (c .level3 .ensures ∙ value 2 (at .loop .i) _ _ (pixel .blue-in) (omega arith)),
     )
 
 same-length : tie.Need-same-length Inv-loop μ-loop
@@ -101,9 +109,9 @@ same-length c = c .before .loop .inv .1 .len
 
 returns : tie.Need-returns Inv-loop μ-loop
 returns c =
-    let fit = c .before .before .before .before .pre in
-    let e : c .before .loop .i ≡ c .before .before .before .before .args .height * c .before .before .before .before .args .width = omega arith in
-    laid-all nan _ _ (mul-pos (fit .0) (fit .1)) (rw e at (c .before .loop .inv .1)) (fit .3)
+    let s = at-start (c .before) in
+    let e : c .before .loop .i ≡ s .args .height * s .args .width = omega arith in
+    laid-all nan _ _ (mul-pos (s .pre .0 .0) (s .pre .0 .1)) (rw e at (c .before .loop .inv .1)) (s .pre .1 .1)
 
 pub load-planes-spec : {M : Type 1} → statement M
 load-planes-spec =

@@ -1,7 +1,7 @@
 -- `load::new` meets its contract: a refusal by its answer, and the planes by what `load_planes` leaves.
 use mathlib.Core.Path.{sym, _∙_}
 use native.Mathlib.Omega.{arith}
-use Rattle.load.specs.Load.{ofByte}
+use Rattle.load.specs.Load.{mostByte}
 use Rattle.load.proofs.Answers.{fit, refuses}
 use borrow.Author.Needs.{needs}
 use Rattle.load.proofs.new.Statement.{statement}
@@ -14,12 +14,12 @@ fresh-requires : tie.Need-fresh-requires
 fresh-requires c κs = search needs
 
 returns : tie.Need-returns
-returns c = refuses ofByte _ _ _ _ _ (c .before .before .load-answer .ensures) (c .before .if1 .taken) (c .fresh .ensures .0)
+returns c = refuses mostByte _ _ _ _ _ (c .before .before .load-answer .ensures) (c .before .if1 .taken) (c .fresh .ensures .0)
 
 load-planes-requires : tie.Need-load-planes-requires
 load-planes-requires c κs =
     let ok = fit _ _ _ _ (sym (c .before .before .load-answer .ensures) ∙ c .before .if1 .left) in
-    (omega (arith, ok .sides .low-h), omega (arith, ok .sides .low-w), ok .pixels-in, ok .planes-in)
+    ((omega (arith, ok .sides .low-h), omega (arith, ok .sides .low-w)), (ok .pixels-in, ok .planes-in))
 
 fresh-requires-2 : tie.Need-fresh-requires-2
 fresh-requires-2 c κs = search needs

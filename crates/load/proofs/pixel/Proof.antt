@@ -1,3 +1,4 @@
+-- `load::pixel` meets its contract: the four places lie in the list.
 use borrow.Author.Needs.{needs}
 use Rattle.load.proofs.pixel.Statement.{statement}
 use Rattle.load.proofs.pixel.Tie as tie
