@@ -50,7 +50,8 @@ fn slices_short(
     scratch_u32: &[u32],
 ) -> bool
     ensures { λ r.
-        let s = lent [] (now (edges .entry)) (now (scores .entry)) (now («scratch_f32» .entry)) (now («scratch_u8» .entry)) (now («scratch_u32» .entry)) in
+        let s = lent [] (now (edges .entry)) (now (scores .entry))
+            (now («scratch_f32» .entry)) (now («scratch_u8» .entry)) (now («scratch_u32» .entry)) in
         ⌜ (sidesOutside leastSide height width ≡ false → r ≡ slicesShort height width s) ⌝ }
 {
     if board::sides_outside(Board::LEAST_SIDE, height, width) {
@@ -83,7 +84,8 @@ fn check(
     scratch_u32: &[u32],
 ) -> u32
     ensures { λ r.
-        let s = lent (now (planes .entry)) (now (edges .entry)) (now (scores .entry)) (now («scratch_f32» .entry)) (now («scratch_u8» .entry)) (now («scratch_u32» .entry)) in
+        let s = lent (now (planes .entry)) (now (edges .entry)) (now (scores .entry))
+            (now («scratch_f32» .entry)) (now («scratch_u8» .entry)) (now («scratch_u32» .entry)) in
         ⌜ r ≡ checked b s ⌝ }
 {
     let short = slices_short(
@@ -224,12 +226,13 @@ pub fn work(
     scratch_u32: &mut [u32],
 ) -> Located
     requires { ⌜ FitPlanes leastSide (b .height) (b .width) (now planes) ⌝ }
-    requires {
-        let s = lent (now planes) (now edges) (now scores) (now «scratch_f32») (now «scratch_u8») (now «scratch_u32») in
+    requires { let s = lent (now planes) (now edges) (now scores) (now «scratch_f32») (now «scratch_u8») (now «scratch_u32») in
         ⌜ Room (b .height) (b .width) s ⌝ }
     ensures { λ r.
-        let before = lent (now (planes .entry)) (now (edges .entry)) (now (scores .entry)) (now («scratch_f32» .entry)) (now («scratch_u8» .entry)) (now («scratch_u32» .entry)) in
-        let after = lent (now (planes .exit)) (now (edges .exit)) (now (scores .exit)) (now («scratch_f32» .exit)) (now («scratch_u8» .exit)) (now («scratch_u32» .exit)) in
+        let before = lent (now (planes .entry)) (now (edges .entry)) (now (scores .entry))
+            (now («scratch_f32» .entry)) (now («scratch_u8» .entry)) (now («scratch_u32» .entry)) in
+        let after = lent (now (planes .exit)) (now (edges .exit)) (now (scores .exit))
+            (now («scratch_f32» .exit)) (now («scratch_u8» .exit)) (now («scratch_u32» .exit)) in
         ⌜ Works b before r after ⌝ }
 {
     let height = b.height;
@@ -253,8 +256,10 @@ pub fn get_pos_pixel(
     scratch_u32: &mut [u32],
 ) -> Located
     ensures { λ r.
-        let before = lent (now (planes .entry)) (now (edges .entry)) (now (scores .entry)) (now («scratch_f32» .entry)) (now («scratch_u8» .entry)) (now («scratch_u32» .entry)) in
-        let after = lent (now (planes .exit)) (now (edges .exit)) (now (scores .exit)) (now («scratch_f32» .exit)) (now («scratch_u8» .exit)) (now («scratch_u32» .exit)) in
+        let before = lent (now (planes .entry)) (now (edges .entry)) (now (scores .entry))
+            (now («scratch_f32» .entry)) (now («scratch_u8» .entry)) (now («scratch_u32» .entry)) in
+        let after = lent (now (planes .exit)) (now (edges .exit)) (now (scores .exit))
+            (now («scratch_f32» .exit)) (now («scratch_u8» .exit)) (now («scratch_u32» .exit)) in
         ⌜ LocateGives b before r after × Promise b before r after ⌝ }
 {
     let answer = check(

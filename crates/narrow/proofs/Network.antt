@@ -1,4 +1,4 @@
--- The smallest, the middle one and the largest of three, and the fifth smallest of nine, by comparisons. Whether each is at most v turns only on how many
+-- The smallest, the second and the largest of three, and the fifth smallest of nine, by comparisons. Whether each is at most v turns only on how many
 -- of the values are, which leaves a few cases to go through. Assumes nothing.
 use Prim.Native.Nat.{ℕ, zero, suc, min, max, _+_, _≤_, _<_}
 use mathlib.Core.Path.{_≡_, refl, sym, ap, _∙_}
@@ -22,7 +22,7 @@ use Rattle.binary32.specs.Binary32.{larger, lesser}
 use Rattle.binary32.proofs.Values.{T-of}
 use Rattle.binary32.proofs.Units.{IsUnit, lesser-bits, larger-bits, lesser-unit, larger-unit}
 use Rattle.board.specs.Planes.{allUnits}
-use Rattle.narrow.proofs.AllUnits.{units-each}
+use Rattle.board.proofs.Units.{units-at}
 use Rattle.narrow.specs.Narrow.{ranked}
 
 abbrev key : Float → ℕ
@@ -61,52 +61,55 @@ trues p q r = cond p 1 0 + (cond q 1 0 + (cond r 1 0 + 0))
 
 -- what the three choices make of tests
 record Ways (p q r : Bool) : Type 0 where
-  least : ((p || q) || r) ≡ ltb 0 (trues p q r)
-  middle : ((p || q) && ((p && q) || r)) ≡ ltb 1 (trues p q r)
-  most : ((p && q) && r) ≡ ltb 2 (trues p q r)
+  smallest : ((p || q) || r) ≡ ltb 0 (trues p q r)
+  second : ((p || q) && ((p && q) || r)) ≡ ltb 1 (trues p q r)
+  largest : ((p && q) && r) ≡ ltb 2 (trues p q r)
 
 ways : (p q r : Bool) → Ways p q r
-ways true true true = record { least = refl; middle = refl; most = refl }
-ways true true false = record { least = refl; middle = refl; most = refl }
-ways true false true = record { least = refl; middle = refl; most = refl }
-ways true false false = record { least = refl; middle = refl; most = refl }
-ways false true true = record { least = refl; middle = refl; most = refl }
-ways false true false = record { least = refl; middle = refl; most = refl }
-ways false false true = record { least = refl; middle = refl; most = refl }
-ways false false false = record { least = refl; middle = refl; most = refl }
+ways true true true = record { smallest = refl; second = refl; largest = refl }
+ways true true false = record { smallest = refl; second = refl; largest = refl }
+ways true false true = record { smallest = refl; second = refl; largest = refl }
+ways true false false = record { smallest = refl; second = refl; largest = refl }
+ways false true true = record { smallest = refl; second = refl; largest = refl }
+ways false true false = record { smallest = refl; second = refl; largest = refl }
+ways false false true = record { smallest = refl; second = refl; largest = refl }
+ways false false false = record { smallest = refl; second = refl; largest = refl }
 
 -- three values of the format are units
 pub units-of : {a b c : Float} → fits binary32 a ≡ true → fits binary32 b ≡ true → fits binary32 c ≡ true →
     allUnits (a ∷ b ∷ c ∷ []) ≡ true → IsUnit a × IsUnit b × IsUnit c
 units-of {a} {b} {c} p q r u =
-    let e = units-each (a ∷ b ∷ c ∷ []) u in
-    (record { fit = T-of p; small = e .0 }, record { fit = T-of q; small = e .1 .0 }, record { fit = T-of r; small = e .1 .1 .0 })
+    let at = units-at (a ∷ b ∷ c ∷ []) in (
+      record { fit = T-of p; small = at 0 u (omega arith) },
+      record { fit = T-of q; small = at 1 u (omega arith) },
+      record { fit = T-of r; small = at 2 u (omega arith) },
+    )
 
 module _ {a b c : Float} (U : IsUnit a × IsUnit b × IsUnit c) where
   is-of-three : (x : Float) (j : ℕ) → IsUnit x → j < 3 → ((v : ℕ) → leb (key x) v ≡ ltb j (trues (leb (key a) v) (leb (key b) v) (leb (key c) v))) →
       x ≡ ranked (a ∷ b ∷ c ∷ []) j
   is-of-three x j u h e = is-entry x (a ∷ b ∷ c ∷ []) j (u .fit) (U .0 .fit, (U .1 .fit, (U .2 .fit, tt))) h e
 
-  pub least-is : lesser (lesser a b) c ≡ ranked (a ∷ b ∷ c ∷ []) 0
-  least-is =
+  pub smallest-is : lesser (lesser a b) c ≡ ranked (a ∷ b ∷ c ∷ []) 0
+  smallest-is =
       let low = lesser-unit (U .0) (U .1) in
       is-of-three (lesser (lesser a b) c) 0 (lesser-unit low (U .2)) (omega arith)
-      (λ v. rw (lesser-bits low (U .2), lesser-bits (U .0) (U .1), leb-min, leb-min) (ways (leb (key a) v) (leb (key b) v) (leb (key c) v) .least))
+      (λ v. rw (lesser-bits low (U .2), lesser-bits (U .0) (U .1), leb-min, leb-min) (ways (leb (key a) v) (leb (key b) v) (leb (key c) v) .smallest))
 
-  pub middle-is : larger (lesser a b) (lesser (larger a b) c) ≡ ranked (a ∷ b ∷ c ∷ []) 1
-  middle-is =
+  pub second-is : larger (lesser a b) (lesser (larger a b) c) ≡ ranked (a ∷ b ∷ c ∷ []) 1
+  second-is =
       let low = lesser-unit (U .0) (U .1) in
       let high = larger-unit (U .0) (U .1) in
       let rest = lesser-unit high (U .2) in
       is-of-three (larger (lesser a b) (lesser (larger a b) c)) 1 (larger-unit low rest) (omega arith)
       (λ v. rw (larger-bits low rest, lesser-bits (U .0) (U .1), lesser-bits high (U .2), larger-bits (U .0) (U .1))
-      (simp (leb-min, leb-max) (ways (leb (key a) v) (leb (key b) v) (leb (key c) v) .middle)))
+      (simp (leb-min, leb-max) (ways (leb (key a) v) (leb (key b) v) (leb (key c) v) .second)))
 
-  pub most-is : larger (larger a b) c ≡ ranked (a ∷ b ∷ c ∷ []) 2
-  most-is =
+  pub largest-is : larger (larger a b) c ≡ ranked (a ∷ b ∷ c ∷ []) 2
+  largest-is =
       let high = larger-unit (U .0) (U .1) in
       is-of-three (larger (larger a b) c) 2 (larger-unit high (U .2)) (omega arith)
-      (λ v. rw (larger-bits high (U .2), larger-bits (U .0) (U .1), leb-max, leb-max) (ways (leb (key a) v) (leb (key b) v) (leb (key c) v) .most))
+      (λ v. rw (larger-bits high (U .2), larger-bits (U .0) (U .1), leb-max, leb-max) (ways (leb (key a) v) (leb (key b) v) (leb (key c) v) .largest))
 
 -- ---- nine values
 
@@ -156,13 +159,16 @@ module _ (x : ℕ → ℕ → Float) where
   abbrev pub ranks : ℕ → List Float
   ranks j = ranked (three 0) j ∷ ranked (three 1) j ∷ ranked (three 2) j ∷ []
 
-  -- the largest least, the middle one of the middle ones, and the least largest
+  -- the largest of the smallest, the second of the second, and the smallest of the largest
   abbrev pub finals : List Float
   finals = ranked (ranks 0) 2 ∷ ranked (ranks 1) 1 ∷ ranked (ranks 2) 0 ∷ []
 
   -- how many of row u are at most v
   abbrev many : ℕ → ℕ → ℕ
   many v u = countAtMost key v (three u)
+
+  few : (v u : ℕ) → many v u ≤ 3
+  few v u = count-le (atMost key v) (three u)
 
   total : (v : ℕ) → many v 0 + (many v 1 + many v 2) ≡ countAtMost key v (grid 3 3 x)
   total v = omega arith
@@ -183,7 +189,7 @@ module _ (x : ℕ → ℕ → Float) where
     pub finals-are : Each P finals
     finals-are = (pick-is 0 2 (omega arith) (omega arith), (pick-is 1 1 (omega arith) (omega arith), (pick-is 2 0 (omega arith) (omega arith), tt)))
 
-  -- the middle one of these three is the fifth smallest of the nine
+  -- the second of these three is the fifth smallest of the nine
   pub fifth-is : ((u v : ℕ) → u < 3 → v < 3 → Fits (x u v)) → ranked finals 1 ≡ ranked (grid 3 3 x) 4
   fifth-is f =
       let a = three-are Fits f 0 (omega arith) in
@@ -194,4 +200,4 @@ module _ (x : ℕ → ℕ → Float) where
       (omega arith)
       (λ v.
       simp (three-leb 0 (omega arith), three-leb 1 (omega arith), three-leb 2 (omega arith))
-      (nine-ways (many v 0) (many v 1) (many v 2) (count-le (atMost key v) (three 0)) (count-le (atMost key v) (three 1)) (count-le (atMost key v) (three 2)) ∙ ap (ltb 4) (total v)))
+      (nine-ways (many v 0) (many v 1) (many v 2) (few v 0) (few v 1) (few v 2) ∙ ap (ltb 4) (total v)))

@@ -1,15 +1,12 @@
 -- 01, "Narrowing", over the factor f: today 3.
-use Prim.Native.Nat.{ℕ, _+_, _-_, _*_, _/_, _≤_}
-use mathlib.Core.Bool.{true}
-use mathlib.Core.List.{List, [], _∷_, _++_}
-use mathlib.Core.Path.{_≡_}
+use Prim.Native.Nat.{ℕ, _+_, _-_, _*_, _/_}
+use mathlib.Core.List.{List, _++_}
 use lib.Ieee.{Float, nan, binary32, ofBits, toBits}
-use lib.ListN.{length, take, drop, replicate, getD}
+use lib.ListN.{replicate}
+use Rattle.lists.specs.Front.{over}
 use Rattle.lists.specs.Tab.{grid}
 use Rattle.rank.specs.Rank.{entry}
 use Rattle.board.specs.Screen.{Screen, packed, view}
-use Rattle.board.specs.Planes.{allUnits}
-use Rattle.narrow.specs.declared.Rising.{Rising}
 
 -- entry j of values sorted rising
 abbrev pub ranked : List Float → ℕ → Float
@@ -31,20 +28,4 @@ narrowed f s = record { height = s .height / f; width = s .width / f; px = λ k.
 -- the planes afterwards: the narrowed screen, then 0.0 to the old end, then what was there
 abbrev pub narrow : ℕ → ℕ → ℕ → List Float → List Float
 narrow f h w planes =
-    packed (narrowed f (view h w planes))
-    ++ (replicate (3 * (h * w) - 3 * (h / f * (w / f))) (ofBits binary32 0) ++ drop (3 * (h * w)) planes)
-
--- what is asked of the planes: they are there, and each of their values is a unit
-pub record UnitPlanes (h w : ℕ) (planes : List Float) : Type 0 where
-  pub there : 3 * (h * w) ≤ length planes
-  pub units : allUnits (take (3 * (h * w)) planes) ≡ true
-
--- ---- for the contracts inside
-
--- three neighbours of a list, the first at `at`
-abbrev pub neighbours : List Float → ℕ → List Float
-neighbours s at = getD s at nan ∷ getD s (at + 1) nan ∷ getD s (at + 2) nan ∷ []
-
--- the same sorted rising
-abbrev pub risingAt : List Float → ℕ → Rising
-risingAt s at = record { least = ranked (neighbours s at) 0; middle = ranked (neighbours s at) 1; most = ranked (neighbours s at) 2 }
+    over (packed (narrowed f (view h w planes)) ++ replicate (3 * (h * w) - 3 * (h / f * (w / f))) (ofBits binary32 0)) planes

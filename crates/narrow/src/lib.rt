@@ -1,32 +1,33 @@
-// Narrowing (01, "Narrowing"): each plane point becomes the fifth smallest of its 3 by 3 block. Definitions: specs/Narrow.
-// Laws for callers: proofs/Laws. It asks for units, whose order is that of their bits, so that it can pick by comparison.
+// Narrowing (01, "Narrowing"): each plane point becomes the fifth smallest of its 3 by 3 block. Definitions: specs/Narrow, over the factor;
+// specs/Three is for the inner functions. Laws for callers: proofs/Laws. It asks for units, whose order is that of their bits, so that it
+// can pick by comparison.
 ghost use mathlib.Core.Path.{_≡_};
 ghost use mathlib.Core.Bool.{true};
-ghost use mathlib.Core.List.{[], _∷_, _++_};
-ghost use Prim.Native.Nat.{_+_, _-_, _*_, _/_, _<_, _≤_};
-ghost use lib.Ieee.{binary32, ofBits};
-ghost use lib.ListN.{length, take, drop, replicate};
-ghost use Rattle.lists.specs.Tab.{tab};
+ghost use mathlib.Core.List.{[], _∷_};
+ghost use Prim.Native.Nat.{_+_, _*_, _/_, _<_, _≤_};
+ghost use lib.ListN.{length, drop};
+ghost use Rattle.lists.specs.Front.{AtFront};
 ghost use Rattle.board.specs.Screen.{view, packed};
-ghost use Rattle.board.specs.Planes.{allUnits};
+ghost use Rattle.board.specs.Planes.{allUnits, FitPlanes};
 ghost use Rattle.narrow.specs.Narrow as Spec;
-ghost use Rattle.narrow.specs.Narrow.{UnitPlanes, ranked, neighbours, risingAt, median, narrowed};
+ghost use Rattle.narrow.specs.Narrow.{ranked, median, narrowed};
+ghost use Rattle.narrow.specs.Three.{neighbours, risingAt, rowOf};
 
 // Three values sorted rising.
 struct Rising {
-    least: f32,
-    middle: f32,
-    most: f32,
+    smallest: f32,
+    second: f32,
+    largest: f32,
 }
 
-fn least(a: f32, b: f32, c: f32) -> f32
+fn smallest(a: f32, b: f32, c: f32) -> f32
     requires { ⌜ allUnits (a ∷ b ∷ c ∷ []) ≡ true ⌝ }
     ensures { λ r. ⌜ r ≡ ranked (a ∷ b ∷ c ∷ []) 0 ⌝ }
 {
     binary32::lesser(binary32::lesser(a, b), c)
 }
 
-fn middle(a: f32, b: f32, c: f32) -> f32
+fn second(a: f32, b: f32, c: f32) -> f32
     requires { ⌜ allUnits (a ∷ b ∷ c ∷ []) ≡ true ⌝ }
     ensures { λ r. ⌜ r ≡ ranked (a ∷ b ∷ c ∷ []) 1 ⌝ }
 {
@@ -36,7 +37,7 @@ fn middle(a: f32, b: f32, c: f32) -> f32
     )
 }
 
-fn most(a: f32, b: f32, c: f32) -> f32
+fn largest(a: f32, b: f32, c: f32) -> f32
     requires { ⌜ allUnits (a ∷ b ∷ c ∷ []) ≡ true ⌝ }
     ensures { λ r. ⌜ r ≡ ranked (a ∷ b ∷ c ∷ []) 2 ⌝ }
 {
@@ -52,32 +53,32 @@ fn rising_at(s: &[f32], at: usize) -> Rising
     let b = s[at + 1];
     let c = s[at + 2];
     Rising {
-        least: least(a, b, c),
-        middle: middle(a, b, c),
-        most: most(a, b, c),
+        smallest: smallest(a, b, c),
+        second: second(a, b, c),
+        largest: largest(a, b, c),
     }
 }
 
-// The fifth smallest of the block of row i and column j in plane k: the middle one of the largest least, the middle middle and the
-// least largest of its rows.
+// The fifth smallest of the block of row i and column j in plane k. Of the block's rows: the largest of the smallest, the second of the
+// second and the smallest of the largest; of these three the second.
 fn fifth(height: usize, width: usize, planes: &[f32], k: usize, i: usize, j: usize) -> f32
-    requires { ⌜ UnitPlanes height width (now planes) × (k < 3) × (i < height / 3) × (j < width / 3) ⌝ }
+    requires { ⌜ FitPlanes 0 height width (now planes) × (k < 3) × (i < height / 3) × (j < width / 3) ⌝ }
     ensures { λ r. ⌜ r ≡ median 3 (view height width (now (planes .entry)) .px k) i j ⌝ }
 {
     let top = k * (height * width) + (i * 3 * width + j * 3);
     let p = rising_at(planes, top);
     let q = rising_at(planes, top + width);
     let r = rising_at(planes, top + 2 * width);
-    let low = most(p.least, q.least, r.least);
-    let mid = middle(p.middle, q.middle, r.middle);
-    let high = least(p.most, q.most, r.most);
-    middle(low, mid, high)
+    let low = largest(p.smallest, q.smallest, r.smallest);
+    let mid = second(p.second, q.second, r.second);
+    let high = smallest(p.largest, q.largest, r.largest);
+    second(low, mid, high)
 }
 
 // Row i of narrowed plane k into another slice: within one slice the compiler cannot work on several points at once.
 fn narrow_row(height: usize, width: usize, planes: &[f32], k: usize, i: usize, out: &mut [f32])
-    requires { ⌜ UnitPlanes height width (now planes) × (k < 3) × (i < height / 3) × (width / 3 ≤ length (now out)) ⌝ }
-    ensures { λ _. ⌜ now (out .exit) ≡ tab (width / 3) (median 3 (view height width (now (planes .entry)) .px k) i) ++ drop (width / 3) (now (out .entry)) ⌝ }
+    requires { ⌜ FitPlanes 0 height width (now planes) × (k < 3) × (i < height / 3) × (width / 3 ≤ length (now out)) ⌝ }
+    ensures { λ _. ⌜ AtFront (rowOf (narrowed 3 (view height width (now (planes .entry)))) k i) (now (out .entry)) (now (out .exit)) ⌝ }
 {
     for j in 0..width / 3 {
         out[j] = fifth(height, width, planes, k, i, j);
@@ -86,8 +87,8 @@ fn narrow_row(height: usize, width: usize, planes: &[f32], k: usize, i: usize, o
 
 // The narrowed planes, one after another, row by row.
 fn narrow_planes(height: usize, width: usize, planes: &[f32], out: &mut [f32])
-    requires { ⌜ UnitPlanes height width (now planes) × (height * width ≤ length (now out)) ⌝ }
-    ensures { λ _. ⌜ now (out .exit) ≡ packed (narrowed 3 (view height width (now (planes .entry)))) ++ drop (3 * (height / 3 * (width / 3))) (now (out .entry)) ⌝ }
+    requires { ⌜ FitPlanes 0 height width (now planes) × (height * width ≤ length (now out)) ⌝ }
+    ensures { λ _. ⌜ AtFront (packed (narrowed 3 (view height width (now (planes .entry))))) (now (out .entry)) (now (out .exit)) ⌝ }
 {
     let rows = height / 3;
     let columns = width / 3;
@@ -97,33 +98,15 @@ fn narrow_planes(height: usize, width: usize, planes: &[f32], out: &mut [f32])
     }
 }
 
-fn copy_front(from: &[f32], n: usize, to: &mut [f32])
-    requires { ⌜ (n ≤ length (now from)) × (n ≤ length (now to)) ⌝ }
-    ensures { λ _. ⌜ now (to .exit) ≡ take n (now (from .entry)) ++ drop n (now (to .entry)) ⌝ }
-{
-    for k in 0..n {
-        to[k] = from[k];
-    }
-}
-
-fn clear_front(out: &mut [f32], n: usize)
-    requires { ⌜ n ≤ length (now out) ⌝ }
-    ensures { λ _. ⌜ now (out .exit) ≡ replicate n (ofBits binary32 0) ++ drop n (now (out .entry)) ⌝ }
-{
-    for k in 0..n {
-        out[k] = 0.0;
-    }
-}
-
 // Narrows the planes by 3. The first height · width entries of `scratch` are free afterwards.
 pub fn narrow(height: usize, width: usize, planes: &mut [f32], scratch: &mut [f32])
-    requires { ⌜ UnitPlanes height width (now planes) × (height * width ≤ length (now scratch)) ⌝ }
+    requires { ⌜ FitPlanes 0 height width (now planes) × (height * width ≤ length (now scratch)) ⌝ }
     ensures { λ _. ⌜ now (planes .exit) ≡ Spec.narrow 3 height width (now (planes .entry)) ⌝ }
     ensures { λ _. ⌜ drop (height * width) (now (scratch .exit)) ≡ drop (height * width) (now (scratch .entry)) ⌝ }
 {
     let n = 3 * (height / 3 * (width / 3));
     let rest = 3 * (height * width) - n;
     narrow_planes(height, width, planes, scratch);
-    copy_front(scratch, n, planes);
-    clear_front(&mut planes[n..], rest);
+    lists::copy_f32(scratch, n, planes);
+    lists::clear_f32(&mut planes[n..], rest);
 }

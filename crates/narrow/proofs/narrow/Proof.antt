@@ -1,26 +1,43 @@
 -- `narrow::narrow` meets its contract: the narrowed planes are laid out in the scratch, copied to the front, and followed by 0.0.
-use Prim.Native.Nat.{_+_, _-_, _*_, _/_, _≤_}
-use mathlib.Core.Path.{_≡_}
-use lib.Ieee.{binary32, ofBits}
-use lib.ListN.{replicate}
-use Rattle.board.specs.Screen.{packed, view}
-use Rattle.narrow.specs.Narrow.{narrowed}
+use Prim.Native.Nat.{_*_, _/_, _≤_}
 use native.Mathlib.Omega.{arith}
-use Rattle.narrow.proofs.Packed.{shrinks, length-packed, laid-out, behind-kept}
 use denote.Ref.{now}
+use Rattle.lists.proofs.Front.{front-part, front-behind}
+use Rattle.board.specs.Screen.{Screen, view}
+use Rattle.narrow.specs.Narrow.{narrowed}
+use Rattle.narrow.proofs.Packed.{shrinks, length-packed, front-kept}
 use borrow.Author.Needs.{needs}
 use Rattle.narrow.proofs.narrow.Statement.{statement}
 use Rattle.narrow.proofs.narrow.Tie as tie
+
+-- the places that the others follow, and the narrowed screen
+abbrev at-start : tie.After-slice-known2 → tie.Start
+at-start c = c .before .before
+
+abbrev at-laid : tie.After-copy-f32-arg2 → tie.After-narrow-planes
+at-laid c = c .before .before .before .before
+
+abbrev at-copied : tie.After-slice-known4 → tie.After-copy-f32
+at-copied c = c .before .before
+
+abbrev begun : tie.After-narrow-planes → tie.Start
+begun c = at-start (c .before .before .before)
+
+abbrev small : tie.Start → Screen
+small s = narrowed 3 (view (s .args .height) (s .args .width) (now (s .args .planes)))
 
 -- the narrowed planes fit
 room : (s : tie.Start) → 3 * (s .args .height / 3 * (s .args .width / 3)) ≤ s .args .height * s .args .width
 room s = shrinks (s .args .height) (s .args .width)
 
+room-left : (c : tie.After-slice-known4) → let a = begun (at-laid (at-copied c .before)) .args in 3 * (a .height / 3 * (a .width / 3)) ≤ a .height * a .width
+room-left c = room (begun (at-laid (at-copied c .before)))
+
 mul-n : tie.Need-mul-n
-mul-n c = omega (arith, room (c .before .before))
+mul-n c = omega (arith, room (at-start c))
 
 mul-n-2 : tie.Need-mul-n-2
-mul-n-2 c = omega (arith, room (c .before .before))
+mul-n-2 c = omega (arith, room (at-start c))
 
 mul-rest : tie.Need-mul-rest
 mul-rest c = search needs
@@ -29,28 +46,28 @@ mul-rest-2 : tie.Need-mul-rest-2
 mul-rest-2 c = search needs
 
 sub-rest : tie.Need-sub-rest
-sub-rest c = omega (arith, room (c .before .before))
+sub-rest c = omega (arith, room (at-start c))
 
 narrow-planes-requires : tie.Need-narrow-planes-requires
 narrow-planes-requires c κs = search needs
 
-copy-front-requires : tie.Need-copy-front-requires
-copy-front-requires c κs = let r = room (c .before .before .before .before .before .before .before .before .before) in (omega arith, omega arith)
+copy-f32-requires : tie.Need-copy-f32-requires
+copy-f32-requires c κs = let r = room (begun (at-laid c)) in (omega arith, omega arith)
 
-mul-clear-front : tie.Need-mul-clear-front
-mul-clear-front c = omega (arith, room (c .before .before .before .before .before .before .before .before .before .before .before .before))
+mul-clear-f32 : tie.Need-mul-clear-f32
+mul-clear-f32 c = omega (arith, room-left c)
 
-sub-clear-front : tie.Need-sub-clear-front
-sub-clear-front c = omega (arith, room (c .before .before .before .before .before .before .before .before .before .before .before .before))
+sub-clear-f32 : tie.Need-sub-clear-f32
+sub-clear-f32 c = omega (arith, room-left c)
 
-part-clear-front-start : tie.Need-part-clear-front-start
-part-clear-front-start c = omega (arith, room (c .before .before .before .before .before .before .before .before .before .before .before .before))
+part-clear-f32-start : tie.Need-part-clear-f32-start
+part-clear-f32-start c = omega (arith, room-left c)
 
-part-clear-front-end : tie.Need-part-clear-front-end
-part-clear-front-end c = search needs
+part-clear-f32-end : tie.Need-part-clear-f32-end
+part-clear-f32-end c = search needs
 
-clear-front-requires : tie.Need-clear-front-requires
-clear-front-requires c κs = search needs
+clear-f32-requires : tie.Need-clear-f32-requires
+clear-f32-requires c κs = search needs
 
 same-length : tie.Need-same-length
 same-length c = search needs
@@ -60,21 +77,15 @@ same-length-2 c = search needs
 
 returns : tie.Need-returns
 returns c =
-    let a = c .before .before .before .before .before .before .before .before .before .before .before .before .before .before .before .before .args in
+    let cleared = c .before .before in
+    let copied = at-copied (cleared .before .before) in
+    let laid = at-laid (copied .before) in
+    let a = begun laid .args in
     let n = 3 * (a .height / 3 * (a .width / 3)) in
-    let all : n + (3 * (a .height * a .width) - n) ≡ 3 * (a .height * a .width) = omega (arith, shrinks (a .height) (a .width)) in
-    let s = narrowed 3 (view (a .height) (a .width) (now (a .planes))) in
-    let laid = c .before .before .before .before .before .before .before .before .before .before .before .narrow-planes .ensures in
-    let most : n + (a .height * a .width - n) ≡ a .height * a .width = omega (arith, shrinks (a .height) (a .width)) in (
-      rw all at
-          (laid-out n (3 * (a .height * a .width) - n) (packed s) (replicate (3 * (a .height * a .width) - n) (ofBits binary32 0))
-          (now (a .planes))
-          (now (a .scratch))
-          (length-packed s)
-          laid
-          (c .before .before .before .before .before .before .copy-front .ensures)
-          (c .before .before .clear-front .ensures)),
-      rw most at (behind-kept n (a .height * a .width - n) (packed s) (now (a .scratch)) (length-packed s) laid),
+    let long = length-packed (small (begun laid)) in
+    let front = rw (front-part n long (laid .narrow-planes .ensures)) at (copied .copy-f32 .ensures) in (
+      front-behind n long front (cleared .clear-f32 .ensures) .is,
+      front-kept (a .height * a .width) (omega (arith, long, room (begun laid))) (laid .narrow-planes .ensures),
     )
 
 pub narrow-spec : {M : Type 1} → statement M
@@ -87,12 +98,12 @@ narrow-spec =
     mul-rest-2
     sub-rest
     narrow-planes-requires
-    copy-front-requires
-    mul-clear-front
-    sub-clear-front
-    part-clear-front-start
-    part-clear-front-end
-    clear-front-requires
+    copy-f32-requires
+    mul-clear-f32
+    sub-clear-f32
+    part-clear-f32-start
+    part-clear-f32-end
+    clear-f32-requires
     same-length
     same-length-2
     returns)

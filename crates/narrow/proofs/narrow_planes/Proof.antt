@@ -1,24 +1,25 @@
 -- `narrow::narrow_planes` meets its contract. The invariant: the first r rows of the narrowed planes are there, and the rest is as it was.
--- What is left of the rows falls.
+-- What falls: the rows left.
 use Prim.Native.Nat.{_+_, _-_, _*_, _/_, _≤_}
 use mathlib.Core.Path.{_≡_, refl}
-use native.Mathlib.Nat.{zero-mul, mul-assoc, div-lt-iff-lt-mul, mod-lt}
+use native.Mathlib.Nat.{zero-mul, div-lt-iff-lt-mul, mod-lt}
 use native.Mathlib.Omega.{arith}
 use denote.Ref.{now}
 use lib.ListN.{length-drop}
-use Rattle.lists.specs.Fill.{Filled}
-use Rattle.lists.proofs.Fill.{filled-none}
+use Rattle.lists.specs.Front.{AtFront}
+use Rattle.lists.specs.Tab.{grid}
+use Rattle.lists.proofs.Front.{front-none}
 use Rattle.lists.proofs.Part.{mid-rest}
 use Rattle.board.specs.Screen.{view}
 use Rattle.narrow.specs.Narrow.{narrowed}
-use Rattle.narrow.proofs.Packed.{cell, filled-row, row-in}
+use Rattle.narrow.proofs.Packed.{rowsOf, packed-rows, next-row, row-in}
 use borrow.Author.Needs.{needs}
 use Rattle.narrow.proofs.narrow_planes.Statement.{statement}
 use Rattle.narrow.proofs.narrow_planes.Tie as tie
 
 abbrev Inv-loop : tie.InvT-loop
 Inv-loop height width planes out₀ rows columns r₀ r-end out r =
-    (r ≤ 3 * (height / 3)) × (r-end ≡ 3 * (height / 3)) × Filled (cell (narrowed 3 (view height width planes))) (r * (width / 3)) out₀ out
+    (r ≤ 3 * (height / 3)) × (r-end ≡ 3 * (height / 3)) × AtFront (grid r (width / 3) (rowsOf (narrowed 3 (view height width planes)))) out₀ out
 
 abbrev μ-loop : tie.MeasureT-loop
 μ-loop height width planes out₀ rows columns r₀ r-end out r = 3 * (height / 3) - r
@@ -27,7 +28,7 @@ mul-r-end : tie.Need-mul-r-end Inv-loop μ-loop
 mul-r-end c = search needs
 
 loop-holds : tie.Need-loop-holds Inv-loop μ-loop
-loop-holds c = (omega arith, refl, rw zero-mul filled-none)
+loop-holds c = (omega arith, refl, rw zero-mul front-none)
 
 -- the row lies within the room of one old plane
 place : (c : tie.In-loop Inv-loop μ-loop) →
@@ -75,11 +76,10 @@ loop-less c = search needs
 
 loop-again : tie.Need-loop-again Inv-loop μ-loop
 loop-again c =
-    let a = c .before .before .before .before .before .before .before .before .args in
-    let l = c .before .before .before .before .before .loop in
+    let at = c .before .before .before .before .before in
+    let a = at .before .before .before .args in
     let s = narrowed 3 (view (a .height) (a .width) (now (a .planes))) in
-    let e = c .before .before .narrow-row .ensures in
-    (omega arith, refl, filled-row s (l .r) _ (omega arith) (l .inv .2) (omega (arith, place (c .before .before .before .before))) e)
+    (omega arith, refl, next-row s (at .loop .r) (at .loop .inv .2) (c .before .before .narrow-row .ensures))
 
 same-length : tie.Need-same-length Inv-loop μ-loop
 same-length c = search needs
@@ -88,8 +88,7 @@ returns : tie.Need-returns Inv-loop μ-loop
 returns c =
     let a = c .before .before .before .before .args in
     let r : c .before .loop .r ≡ 3 * (a .height / 3) = omega arith in
-    let e : c .before .loop .r * (a .width / 3) ≡ 3 * (a .height / 3 * (a .width / 3)) = rw r (mul-assoc 3 (a .height / 3) (a .width / 3)) in
-    rw e at (c .before .loop .inv .2 .is)
+    rw (packed-rows (narrowed 3 (view (a .height) (a .width) (now (a .planes))))) (rw r at (c .before .loop .inv .2))
 
 pub narrow-planes-spec : {M : Type 1} → statement M
 narrow-planes-spec =

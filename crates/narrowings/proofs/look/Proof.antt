@@ -72,8 +72,7 @@ edges-of-requires c κs =
     let g = c .before .before .before .before in
     let s = sides g in
     let start = g .before .before .before .before .before in
-    let long = ap length (gradients-are g) ∙ length-gradients (height g) (width g) (planes g) in
-    (
+    let long = ap length (gradients-are g) ∙ length-gradients (height g) (width g) (planes g) in (
       (
         omega (arith, s .low-h),
         omega (arith, s .high-h),
@@ -106,8 +105,7 @@ get-r12c12-requires : tie.Need-get-r12c12-requires
 get-r12c12-requires c κs =
     let e = c .before .before .before in
     let g = at-gradients e in
-    let s = sides g in
-    (
+    let s = sides g in (
       omega (arith, s .low-h),
       omega (arith, s .high-h),
       omega (arith, s .low-w),
