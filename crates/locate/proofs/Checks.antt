@@ -1,71 +1,42 @@
 -- What the checks of locating tell. Assumes nothing.
-use Prim.Native.Nat.{ℕ, _+_, _*_, _≤_}
-use mathlib.Core.Path.{_≡_}
-use mathlib.Core.Bool.{true, false, not}
-use mathlib.Core.List.{List}
-use borrow.Author.Tests.{le-ltb, ltb-false, not-false}
+use Prim.Native.Nat.{ℕ, _+_, _*_}
+use mathlib.Core.Path.{_≡_, refl}
+use mathlib.Core.Bool.{false}
+use mathlib.Core.List.{List, []}
+use borrow.Author.Tests.{ltb-false}
 use lib.Dec.{ltb}
 use lib.Ieee.{Float}
-use lib.ListN.{length, take}
-use Rattle.board.specs.Board.{leastSide, sidesOutside}
-use Rattle.board.specs.Planes.{SidesIn}
-use Rattle.board.proofs.Sides.{sides-in, neither, passed}
-use Rattle.board.specs.Planes.{allUnits}
-use Rattle.locate.specs.Locate.{slicesShort, fitAnswer}
+use lib.ListN.{length}
+use Rattle.board.specs.declared.Board.{Board}
+use Rattle.board.specs.Board.{leastSide}
+use Rattle.board.specs.Planes.{FitPlanes}
+use Rattle.board.proofs.Sides.{neither}
+use Rattle.board.proofs.Planes.{planes-fit}
+use Rattle.locate.specs.Locate.{Lent, lent, slicesShort, checked}
+use Rattle.locate.specs.Steps.{Room}
 
--- no lent slice is short
-pub record Room (h w planes edges scores floats bytes words : ℕ) : Type 0 where
-  pub planes-in : 3 * (h * w) ≤ planes
-  pub edges-in : h * w ≤ edges
-  pub scores-in : h + w ≤ scores
-  pub floats-in : h * w ≤ floats
-  pub bytes-in : h * w ≤ bytes
-  pub words-in : 4 * (h + w) ≤ words
-
-pub room : (h w planes edges scores floats bytes words : ℕ) → slicesShort h w planes edges scores floats bytes words ≡ false → Room h w planes edges scores floats bytes words
+-- the planes play no part in whether another slice is short
+pub short-same : (h w : ℕ) (s : Lent) → slicesShort h w (lent [] (s .edges) (s .scores) (s .scratch-f32) (s .scratch-u8) (s .scratch-u32)) ≡ slicesShort h w s
 unfolding slicesShort
-room h w planes edges scores floats bytes words e =
-    let a = neither (ltb planes (3 * (h * w))) _ e in
-    let b = neither (ltb edges (h * w)) _ (a .1) in
-    let c = neither (ltb scores (h + w)) _ (b .1) in
-    let d = neither (ltb floats (h * w)) _ (c .1) in
-    let f = neither (ltb bytes (h * w)) _ (d .1) in
+short-same h w s = refl
+
+pub room : (h w : ℕ) (s : Lent) → slicesShort h w s ≡ false → Room h w s
+unfolding slicesShort
+room h w s e =
+    let a = neither (ltb (length (s .edges)) (h * w)) _ e in
+    let b = neither (ltb (length (s .scores)) (h + w)) _ (a .1) in
+    let c = neither (ltb (length (s .scratch-f32)) (h * w)) _ (b .1) in
+    let d = neither (ltb (length (s .scratch-u8)) (h * w)) _ (c .1) in
     record {
-      planes-in = ltb-false _ _ (a .0);
-      edges-in = ltb-false _ _ (b .0);
-      scores-in = ltb-false _ _ (c .0);
-      floats-in = ltb-false _ _ (d .0);
-      bytes-in = ltb-false _ _ (f .0);
-      words-in = ltb-false words (4 * (h + w)) (f .1);
+      edges-in = ltb-false _ _ (a .0);
+      scores-in = ltb-false _ _ (b .0);
+      f32-in = ltb-false _ _ (c .0);
+      u8-in = ltb-false _ _ (d .0);
+      u32-in = ltb-false (length (s .scratch-u32)) (4 * (h + w)) (d .1);
     }
 
 -- all is fit for the work
-pub record Fit (h w : ℕ) (planes : List Float) (edges scores floats bytes words : ℕ) : Type 0 where
-  pub sides : SidesIn leastSide h w
-  pub slices : Room h w (length planes) edges scores floats bytes words
-  pub units : allUnits (take (3 * (h * w)) planes) ≡ true
-
-pub fit : (h w : ℕ) (planes : List Float) (edges scores floats bytes words : ℕ) → fitAnswer h w planes edges scores floats bytes words ≡ 0 → Fit h w planes edges scores floats bytes words
-unfolding fitAnswer
-fit h w planes edges scores floats bytes words e =
-    let a = passed (sidesOutside leastSide h w) 0 _ e in
-    let b = passed (slicesShort h w (length planes) edges scores floats bytes words) 2 _ (a .1) in
-    let c = passed (not (allUnits (take (3 * (h * w)) planes))) 3 _ (b .1) in
-    record { sides = sides-in leastSide h w (a .0); slices = room h w (length planes) edges scores floats bytes words (b .0); units = not-false _ (c .0) }
-
--- the checks pass with other scratch too, if it is long enough
-pub fit-with : (h w : ℕ) (planes : List Float) (edges scores floats bytes words : ℕ) {floats' bytes' words' : ℕ} → fitAnswer h w planes edges scores floats bytes words ≡ 0
-    → h * w ≤ floats' → h * w ≤ bytes' → 4 * (h + w) ≤ words' → fitAnswer h w planes edges scores floats' bytes' words' ≡ 0
-unfolding fitAnswer slicesShort
-fit-with h w planes edges scores floats bytes words {floats'} {bytes'} {words'} e f b q =
-    let r = fit h w planes edges scores floats bytes words e in
-    rw (
-      passed (sidesOutside leastSide h w) 0 _ e .0,
-      le-ltb (length planes) (3 * (h * w)) (r .slices .planes-in),
-      le-ltb edges (h * w) (r .slices .edges-in),
-      le-ltb scores (h + w) (r .slices .scores-in),
-      le-ltb floats' (h * w) f,
-      le-ltb bytes' (h * w) b,
-      le-ltb words' (4 * (h + w)) q,
-      r .units,
-    )
+pub fit : (b : Board) (s : Lent) → checked b s ≡ 0 → FitPlanes leastSide (b .height) (b .width) (s .planes) × Room (b .height) (b .width) s
+fit b s e =
+    let f = planes-fit leastSide (b .height) (b .width) (s .planes) (slicesShort (b .height) (b .width) s) e in
+    (f .0, room (b .height) (b .width) s (f .1))

@@ -11,32 +11,35 @@ use Rattle.board.specs.declared.Bounds.{Bounds}
 use Rattle.bounds.specs.Bounds.{widen}
 use Rattle.bounds.proofs.Laws.{Wide}
 use Rattle.bounds.proofs.Laws as Laws
+use Rattle.narrowings.specs.declared.Narrowed.{Narrowed}
+use Rattle.strips.specs.Strip.{placeCount}
 use Rattle.strips.specs.States.{Scorable}
-use Rattle.locate.specs.declared.Narrowed.{Narrowed}
+use Rattle.strips.proofs.Scores.{places-most}
+use Rattle.axes.specs.Axes.{RoomFor}
 use Rattle.locate.specs.Steps.{Leads}
 
 module _ {h w : ℕ} {l : Narrowed} {edges : List ℕ} {scores bytes words : ℕ} (g : Leads h w l edges scores bytes words) where
   -- the first edge picture
-  abbrev first : List ℕ
-  first = take ((h - 2) * (w - 2)) edges
+  abbrev picture : List ℕ
+  picture = take ((h - 2) * (w - 2)) edges
 
-  pub first-length : length first ≡ (h - 2) * (w - 2)
-  first-length = length-take-le ((h - 2) * (w - 2)) edges (g .there)
+  pub picture-length : length picture ≡ (h - 2) * (w - 2)
+  picture-length = length-take-le ((h - 2) * (w - 2)) edges (g .there)
 
-  row-in : (h' : ℕ) → h' ≤ h - 2 → h' * (w - 2) ≤ length first
-  row-in h' a = omega (arith, first-length, mul-le-mul-right (w - 2) a)
+  row-in : (h' : ℕ) → h' ≤ h - 2 → h' * (w - 2) ≤ length picture
+  row-in h' a = omega (arith, picture-length, mul-le-mul-right (w - 2) a)
 
-  pub rows-in : (l .height - 2) * (w - 2) ≤ length first
+  pub rows-in : (l .height - 2) * (w - 2) ≤ length picture
   rows-in = row-in (l .height - 2) (omega (arith, g .high-h))
 
   -- the last bounds, widened on it
   abbrev widened : Bounds
-  widened = widen (points (w - 2) 1 first) (l .height - 2) (l .width - 2) (l .bounds)
+  widened = widen (points (w - 2) 1 picture) (l .height - 2) (l .width - 2) (l .bounds)
 
-  pub wide-enough : Wide (l .height - 2) (l .width - 2) widened
-  wide-enough = Laws.wide (points (w - 2) 1 first) (omega (arith, g .low-h)) (omega (arith, g .low-w)) (g .within) (g .rows) (g .columns)
+  wide-enough : Wide (l .height - 2) (l .width - 2) widened
+  wide-enough = Laws.wide (points (w - 2) 1 picture) (omega (arith, g .low-h)) (omega (arith, g .low-w)) (g .within) (g .rows) (g .columns)
 
-  pub scorable : Scorable first (w - 2) widened
+  pub scorable : Scorable picture (w - 2) widened
   scorable =
       let e = wide-enough in
       record {
@@ -49,12 +52,19 @@ module _ {h w : ℕ} {l : Narrowed} {edges : List ℕ} {scores bytes words : ℕ
         marks = g .marks;
       }
 
-  pub bytes-room : (widened .«c_2» - widened .«c_1» + 1) * (widened .«r_2» - widened .«r_1») ≤ bytes
-  bytes-room =
+  -- an axis has no more places than the picture has columns, or rows
+  columns-few : placeCount (widened .«c_1») (widened .«c_2») ≤ w
+  columns-few = let e = wide-enough in omega (arith, places-most (widened .«c_1») (widened .«c_2») (e .columns), e .column-end, g .high-w)
+
+  rows-few : placeCount (widened .«r_1») (widened .«r_2») ≤ h
+  rows-few = let e = wide-enough in omega (arith, places-most (widened .«r_1») (widened .«r_2») (e .rows), e .row-end, g .high-h)
+
+  pub room-for : RoomFor widened scores bytes words
+  room-for =
       let e = wide-enough in
       let a : widened .«c_2» - widened .«c_1» + 1 ≤ w = omega (arith, e .column-end, g .high-w) in
-      let b : widened .«r_2» - widened .«r_1» ≤ h = omega (arith, e .row-end, g .high-h) in
-      omega (arith, mul-le-mul a b, mul-comm w h, g .bytes-in)
-
-  pub scores-room : widened .«c_2» - widened .«c_1» + (widened .«r_2» - widened .«r_1») ≤ h + w
-  scores-room = let e = wide-enough in omega (arith, e .row-end, e .column-end, g .high-h, g .high-w)
+      record {
+        scores-in = omega (arith, columns-few, rows-few, g .scores-in);
+        turned-in = omega (arith, mul-le-mul a rows-few, mul-comm w h, g .bytes-in);
+        words-in = omega (arith, columns-few, rows-few, g .words-in);
+      }

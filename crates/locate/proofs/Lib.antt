@@ -1,9 +1,6 @@
-pub mod Unbeaten
 pub mod Checks
-pub mod Ends
 pub mod Leading
-pub mod Looking
-pub mod Narrowing
 pub mod Promises
+pub mod Scored
+pub mod Unbeaten
 pub mod Working
-pub mod Scoring

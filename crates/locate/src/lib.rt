@@ -51,7 +51,7 @@ fn slices_short(
 ) -> bool
     ensures { λ r.
         let s = lent [] (now (edges .entry)) (now (scores .entry))
-            (now («scratch_f32» .entry)) (now («scratch_u8» .entry)) (now («scratch_u32» .entry)) in
+        (now («scratch_f32» .entry)) (now («scratch_u8» .entry)) (now («scratch_u32» .entry)) in
         ⌜ (sidesOutside leastSide height width ≡ false → r ≡ slicesShort height width s) ⌝ }
 {
     if board::sides_outside(Board::LEAST_SIDE, height, width) {
@@ -85,7 +85,7 @@ fn check(
 ) -> u32
     ensures { λ r.
         let s = lent (now (planes .entry)) (now (edges .entry)) (now (scores .entry))
-            (now («scratch_f32» .entry)) (now («scratch_u8» .entry)) (now («scratch_u32» .entry)) in
+        (now («scratch_f32» .entry)) (now («scratch_u8» .entry)) (now («scratch_u32» .entry)) in
         ⌜ r ≡ checked b s ⌝ }
 {
     let short = slices_short(
@@ -230,9 +230,9 @@ pub fn work(
         ⌜ Room (b .height) (b .width) s ⌝ }
     ensures { λ r.
         let before = lent (now (planes .entry)) (now (edges .entry)) (now (scores .entry))
-            (now («scratch_f32» .entry)) (now («scratch_u8» .entry)) (now («scratch_u32» .entry)) in
+        (now («scratch_f32» .entry)) (now («scratch_u8» .entry)) (now («scratch_u32» .entry)) in
         let after = lent (now (planes .exit)) (now (edges .exit)) (now (scores .exit))
-            (now («scratch_f32» .exit)) (now («scratch_u8» .exit)) (now («scratch_u32» .exit)) in
+        (now («scratch_f32» .exit)) (now («scratch_u8» .exit)) (now («scratch_u32» .exit)) in
         ⌜ Works b before r after ⌝ }
 {
     let height = b.height;
@@ -257,9 +257,9 @@ pub fn get_pos_pixel(
 ) -> Located
     ensures { λ r.
         let before = lent (now (planes .entry)) (now (edges .entry)) (now (scores .entry))
-            (now («scratch_f32» .entry)) (now («scratch_u8» .entry)) (now («scratch_u32» .entry)) in
+        (now («scratch_f32» .entry)) (now («scratch_u8» .entry)) (now («scratch_u32» .entry)) in
         let after = lent (now (planes .exit)) (now (edges .exit)) (now (scores .exit))
-            (now («scratch_f32» .exit)) (now («scratch_u8» .exit)) (now («scratch_u32» .exit)) in
+        (now («scratch_f32» .exit)) (now («scratch_u8» .exit)) (now («scratch_u32» .exit)) in
         ⌜ LocateGives b before r after × Promise b before r after ⌝ }
 {
     let answer = check(
