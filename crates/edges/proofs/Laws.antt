@@ -1,4 +1,4 @@
--- What callers know of the edge bytes: that gradients of units meet what `edges_of` requires, how many bytes there are, and that each is 0 or 1.
+-- What callers know of the edge bytes: that gradients of fit planes meet what `edges_of` requires, how many bytes there are, and that each is 0 or 1.
 -- Assumes nothing.
 use Prim.Native.Nat.{ℕ, _-_, _*_, _≤_}
 use mathlib.Core.Path.{_≡_, refl}
@@ -8,20 +8,19 @@ use native.Mathlib.Omega.{arith}
 use borrow.Author.Tests.{ltb-true, ltb-false}
 use lib.Dec.{ltb}
 use lib.Ieee.{Float, nan, le}
-use lib.ListN.{length, getD, take, List·getD-eq-default}
+use lib.ListN.{length, getD, List·getD-eq-default}
 use Rattle.lists.specs.Picture.{bit}
 use Rattle.lists.proofs.Fill.{getD-tab, length-tabFrom}
 use Rattle.lists.proofs.Picture.{bit-le}
 use Rattle.binary32.proofs.Plain.{plain-bits}
-use Rattle.board.specs.Board.{leastPlaneSide, sidesOutside}
-use Rattle.board.specs.Planes.{allUnits}
+use Rattle.board.specs.Board.{leastPlaneSide}
+use Rattle.board.specs.Planes.{FitPlanes}
 use Rattle.gradient.specs.Gradient.{gradients}
 use Rattle.gradient.proofs.Laws.{length-gradients, gradients-plain}
 use Rattle.edges.specs.Edges.{threshold, marks, edges, AllPlain}
 
-pub all-plain : (h w : ℕ) (planes : List Float) → sidesOutside leastPlaneSide h w ≡ false → 3 * (h * w) ≤ length planes
-    → allUnits (take (3 * (h * w)) planes) ≡ true → AllPlain (gradients h w planes)
-all-plain h w planes s l u k b = plain-bits _ (gradients-plain planes h w l u k s (omega (arith, length-gradients h w planes)))
+pub all-plain : {h w : ℕ} {planes : List Float} → FitPlanes leastPlaneSide h w planes → AllPlain (gradients h w planes)
+all-plain {h} {w} {planes} f k b = plain-bits _ (gradients-plain planes h w f k (omega (arith, length-gradients h w planes)))
 
 -- the bytes of the planes' gradients are their edge picture
 pub edges-of-gradients : (h w row column : ℕ) (planes g : List Float) → row ≡ h - 2 → column ≡ w - 2 → g ≡ gradients h w planes

@@ -18,29 +18,21 @@ use Rattle.lists.proofs.Grid.{cell, tab-more, grid-more}
 use Rattle.binary32.proofs.Plain.{Plain, bits-plain, at-most-bits}
 use Rattle.binary32.proofs.Share.{share-below}
 use Rattle.rank.specs.Rank.{atMost, countAtMost}
-use Rattle.edges.specs.Edges.{sample, rankOf, AllPlain}
-use Rattle.edges.specs.Search.{part}
+use Rattle.edges.specs.Edges.{middle, sample, rankOf, AllPlain}
+use Rattle.edges.specs.Counts.{taken, start, part}
 
 -- every value of l is such
 abbrev pub AllAre : (Float → Type 0) → List Float → Type 0
 AllAre P l = (k : ℕ) → k < length l → P (getD l k nan)
-
--- how many rows a part has, or columns of each: one in s of the middle half of the side
-abbrev pub taken : ℕ → ℕ → ℕ
-taken s side = (3 * side / 4 - side / 4) / s
-
--- where row i of a part begins
-abbrev pub start : ℕ → ℕ → ℕ → ℕ → ℕ → ℕ
-start s p row column i = (row / 4 + (s * i + i * i / 7 % s)) * column + (column / 4 + 3 * i % p * taken p column)
 
 -- the value in row i and column j of a part
 abbrev pub partAt : ℕ → ℕ → ℕ → ℕ → List Float → ℕ → ℕ → Float
 partAt s p row column g i j = getD g (start s p row column i + j) nan
 
 -- place k, past a whole number of steps of s and within the next, lies in the middle half
-pub within : (s side i k : ℕ) → 1 ≤ s → i < taken s side → s * i + k % s < 3 * side / 4 - side / 4
+pub within : (s side i k : ℕ) → 1 ≤ s → i < taken s side → s * i + k % s < middle side
 within s side i k z h =
-    let m = 3 * side / 4 - side / 4 in
+    let m = middle side in
     let q : (i + 1) * s ≤ taken s side * s = mul-le-mul-right s (omega arith) in
     omega (arith, mod-lt k z, div-mul-le-self m s, add-mul i 1 s, one-mul s, mul-comm s i)
 
@@ -51,7 +43,7 @@ row-in s p row column i y z h =
     let n = taken p column in
     let e : 3 * i % p + 1 ≤ p = omega (arith, mod-lt (3 * i) z) in
     let f : (3 * i % p + 1) * n ≤ p * n = mul-le-mul-right n e in
-    let l : n * p ≤ 3 * column / 4 - column / 4 = div-mul-le-self (3 * column / 4 - column / 4) p in
+    let l : n * p ≤ middle column = div-mul-le-self (middle column) p in
     omega
     (arith, mul-le-mul-right column q, add-mul (row / 4 + (s * i + i * i / 7 % s)) 1 column, one-mul column, add-mul (3 * i % p) 1 n, one-mul n, mul-comm p n)
 
@@ -77,12 +69,12 @@ part-plain s p row column g y o e f q k h =
 -- the part that is all of it
 pub part-all : (row column : ℕ) (g : List Float) → part 1 1 row column g ≡ sample row column g
 part-all row column g =
-    let n = 3 * column / 4 - column / 4 in
-    let d : taken 1 row ≡ 3 * row / 4 - row / 4 = omega arith in
+    let n = middle column in
+    let d : taken 1 row ≡ middle row = omega arith in
     let e : taken 1 column ≡ n = omega arith in
     rw (d, e)
     (tab-same
-    ((3 * row / 4 - row / 4) * n)
+    (middle row * n)
     _
     _
     (λ k h.
@@ -90,8 +82,8 @@ part-all row column g =
     let z : 3 * (k / n) % 1 ≡ 0 = omega arith in
     ap (λ (p : ℕ). getD g p nan) (rw (y, z) (omega (arith, zero-mul n)))))
 
-pub length-sample : (row column : ℕ) (g : List Float) → length (sample row column g) ≡ (3 * row / 4 - row / 4) * (3 * column / 4 - column / 4)
-length-sample row column g = length-tabFrom 0 ((3 * row / 4 - row / 4) * (3 * column / 4 - column / 4)) _
+pub length-sample : (row column : ℕ) (g : List Float) → length (sample row column g) ≡ middle row * middle column
+length-sample row column g = length-tabFrom 0 (middle row * middle column) _
 
 pub sample-plain : (row column : ℕ) (g : List Float) → length g ≡ row * column → ((k : ℕ) → T (fits binary32 (getD g k nan))) → AllPlain g
     → AllAre Plain (sample row column g)
@@ -109,10 +101,10 @@ rank-below m z h = share-below (ofBits binary32 0x3F0CCCCD) 9227469 16777216 m s
 
 -- the size of a sample
 pub size-in : (row column : ℕ) → 2 ≤ row → row ≤ 4094 → 2 ≤ column → column ≤ 4094
-    → let m = (3 * row / 4 - row / 4) * (3 * column / 4 - column / 4) in (0 < m) × (m ≤ 2 ^ 22)
+    → let m = middle row * middle column in (0 < m) × (m ≤ 2 ^ 22)
 size-in row column a b c d =
-    let r : 3 * row / 4 - row / 4 ≤ 2048 = omega arith in
-    let k : 3 * column / 4 - column / 4 ≤ 2048 = omega arith in
+    let r : middle row ≤ 2048 = omega arith in
+    let k : middle column ≤ 2048 = omega arith in
     (mul-pos (omega arith) (omega arith), mul-le-mul r k)
 
 -- ---- counting by the bits
@@ -140,3 +132,8 @@ pub counted-row : {b count n : ℕ} (f : ℕ → ℕ → Float) (columns i : ℕ
     → n ≡ countAtMost (toBits binary32) b (tab columns (f i)) → Counted b (cell f columns) ((i + 1) * columns) (count + n)
 counted-row {b} f columns i c e =
     counted (rw (grid-more i columns f) (omega (arith, c .is, count-append (atMost (toBits binary32) b) (grid i columns f) (tab columns (f i)))))
+
+-- all rows, by other names of their number and their length
+pub counted-all : {b i rows columns n count : ℕ} (f : ℕ → ℕ → Float) → Counted b (cell f columns) (i * columns) count → i ≡ rows → columns ≡ n
+    → count ≡ countAtMost (toBits binary32) b (grid rows n f)
+counted-all f c e d = rw (sym e, sym d) (c .is)

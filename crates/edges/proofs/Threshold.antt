@@ -14,7 +14,7 @@ use Rattle.rank.specs.Rank.{entry, countAtMost}
 use Rattle.rank.proofs.Entry.{at-least, at-most}
 use Rattle.rank.proofs.Members.{entry-has}
 use Rattle.edges.specs.Edges.{sample, clip, rankOf, threshold}
-use Rattle.edges.specs.Search.{sought, Cut}
+use Rattle.edges.specs.Counts.{sought, Cut}
 use Rattle.edges.specs.declared.Range.{Range}
 use Rattle.edges.proofs.Sample.{AllAre}
 

@@ -1,15 +1,17 @@
 // Threshold and edge bytes of a list of gradients (01, "Gradient and threshold", second paragraph).
-// Definitions: specs/Edges; specs/Search has those of the search for the threshold. Laws for callers: proofs/Laws.
+// Definitions: specs/Edges; specs/Counts has those of the search for the threshold by counting. Laws for callers: proofs/Laws.
 ghost use mathlib.Core.Path.{_≡_};
-ghost use mathlib.Core.List.{_++_};
-ghost use Prim.Native.Nat.{_+_, _-_, _*_, _/_, _^_, _≤_, _<_};
+ghost use Prim.Native.Nat.{_+_, _-_, _*_, _^_, _≤_, _<_};
 ghost use lib.Ieee.{nan, binary32, le, toBits};
-ghost use lib.ListN.{length, getD, drop};
+ghost use lib.ListN.{length, getD};
+ghost use Rattle.lists.specs.Front.{AtFront};
 ghost use Rattle.lists.specs.Tab.{tab};
 ghost use Rattle.lists.specs.Picture.{bit};
 ghost use Rattle.rank.specs.Rank.{countAtMost};
+ghost use Rattle.edges.specs.Edges as Spec;
 ghost use Rattle.edges.specs.Edges.{sample, rankOf, threshold, marks, AllPlain};
-ghost use Rattle.edges.specs.Search.{part, sought, Cut};
+ghost use Rattle.edges.specs.Counts as Counts;
+ghost use Rattle.edges.specs.Counts.{part, start, sought, Cut};
 
 // The bits of 0.01 and of 1.0, the limits of the threshold.
 const LEAST_BITS: u32 = 0x3C23D70A;
@@ -61,9 +63,26 @@ fn count_row(g: &[f32], from: usize, n: usize, bits: u32) -> u32
 // The extent of the middle half of a side.
 fn middle(side: usize) -> usize
     requires { ⌜ side ≤ 4094 ⌝ }
-    ensures { λ r. ⌜ r ≡ 3 * side / 4 - side / 4 ⌝ }
+    ensures { λ r. ⌜ r ≡ Spec.middle side ⌝ }
 {
     3 * side / 4 - side / 4
+}
+
+// The rows of a part of the sample, or the columns of each.
+fn taken(every: usize, side: usize) -> usize
+    requires { ⌜ (1 ≤ every) × (side ≤ 4094) ⌝ }
+    ensures { λ r. ⌜ (r ≡ Counts.taken every side) × (r ≤ 2048) ⌝ }
+{
+    middle(side) / every
+}
+
+// Where row i of a part begins; its `columns` values lie among the gradients.
+fn row_start(every: usize, parts: usize, row: usize, column: usize, columns: usize, i: usize) -> usize
+    requires { ⌜ (1 ≤ every) × (1 ≤ parts) × (row ≤ 4094) × (column ≤ 4094) ⌝ }
+    requires { ⌜ (columns ≡ Counts.taken parts column) × (i < Counts.taken every row) ⌝ }
+    ensures { λ r. ⌜ (r ≡ start every parts row column i) × (r + columns ≤ row * column) ⌝ }
+{
+    (row / 4 + (every * i + i * i / 7 % every)) * column + (column / 4 + 3 * i % parts * columns)
 }
 
 // How many values of a part of the sample are at most the value with these bits.
@@ -72,12 +91,11 @@ fn count_part(every: usize, parts: usize, row: usize, column: usize, g: &[f32], 
     requires { ⌜ AllPlain (now g) ⌝ }
     ensures { λ r. ⌜ r ≡ countAtMost (toBits binary32) bits (part every parts row column (now (g .entry))) ⌝ }
 {
-    let rows = middle(row) / every;
-    let columns = middle(column) / parts;
+    let rows = taken(every, row);
+    let columns = taken(parts, column);
     let mut count: u32 = 0;
     for i in 0..rows {
-        let from = (row / 4 + (every * i + i * i / 7 % every)) * column
-            + (column / 4 + 3 * i % parts * columns);
+        let from = row_start(every, parts, row, column, columns, i);
         count = count + count_row(g, from, columns, bits);
     }
     count
@@ -139,7 +157,7 @@ struct Seen {
 fn size_of_part(every: usize, parts: usize, row: usize, column: usize) -> u32
     requires { ⌜ (1 ≤ every) × (1 ≤ parts) × (row ≤ 4094) × (column ≤ 4094) ⌝ }
 {
-    let size = middle(row) / every * (middle(column) / parts);
+    let size = taken(every, row) * taken(parts, column);
     size as u32
 }
 
@@ -275,7 +293,7 @@ fn threshold_of(row: usize, column: usize, g: &[f32]) -> f32
 pub fn edges_of(row: usize, column: usize, g: &[f32], out: &mut [u8])
     requires { ⌜ (2 ≤ row) × (row ≤ 4094) × (2 ≤ column) × (column ≤ 4094) × (length (now g) ≡ row * column) × (row * column ≤ length (now out)) ⌝ }
     requires { ⌜ AllPlain (now g) ⌝ }
-    ensures { λ _. ⌜ now (out .exit) ≡ marks (threshold row column (now (g .entry))) (row * column) (now (g .entry)) ++ drop (row * column) (now (out .entry)) ⌝ }
+    ensures { λ _. ⌜ AtFront (marks (threshold row column (now (g .entry))) (row * column) (now (g .entry))) (now (out .entry)) (now (out .exit)) ⌝ }
 {
     let th = threshold_of(row, column, g);
     for k in 0..g.len() {

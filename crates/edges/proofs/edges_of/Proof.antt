@@ -1,27 +1,42 @@
--- `edges::edges_of` meets its contract. The invariant: the first k bytes are marks of their gradients. What is left of the gradients falls.
-use Prim.Native.Nat.{_-_, _*_, _≤_}
-use mathlib.Core.Path.{_≡_}
+-- `edges::edges_of` meets its contract. The invariant: the marks of the first k gradients stand at the front. What is left of the gradients falls.
+use Prim.Native.Nat.{ℕ, _-_, _*_, _≤_}
+use mathlib.Core.Path.{_≡_, sym}
+use mathlib.Core.List.{List}
 use native.Mathlib.Omega.{arith}
-use lib.Ieee.{nan, le}
+use denote.Ref.{now}
+use lib.Ieee.{Float, nan, le}
 use lib.ListN.{length, getD}
-use Rattle.lists.specs.Fill.{Filled}
+use Rattle.lists.specs.Front.{AtFront}
 use Rattle.lists.specs.Picture.{bit}
-use Rattle.lists.proofs.Fill.{filled-more}
+use Rattle.lists.proofs.Front.{front-none, front-more}
+use Rattle.edges.specs.Edges.{marks}
 use borrow.Author.Needs.{needs}
 use Rattle.edges.proofs.edges_of.Statement.{statement}
 use Rattle.edges.proofs.edges_of.Tie as tie
 
 abbrev Inv-loop : tie.InvT-loop
-Inv-loop row column g out₀ th k₀ k-end out k = (k ≤ length g) × Filled (λ k. bit (le th (getD g k nan))) k out₀ out
+Inv-loop row column g out₀ th k₀ k-end out k = (k ≤ length g) × AtFront (marks th k g) out₀ out
 
 abbrev μ-loop : tie.MeasureT-loop
 μ-loop row column g out₀ th k₀ k-end out k = length g - k
+
+-- the places that the others follow
+abbrev at-threshold : tie.At-loop Inv-loop μ-loop → tie.After-threshold-of Inv-loop μ-loop
+at-threshold c = c .before
+
+abbrev at-start : tie.At-loop Inv-loop μ-loop → tie.Start Inv-loop μ-loop
+at-start c = at-threshold c .before .before .before
+
+-- the marks by other names of the threshold and of their number
+marks-all : {th t : Float} {k n : ℕ} (g : List Float) {before after : List ℕ} → th ≡ t → k ≡ n → AtFront (marks th k g) before after
+    → AtFront (marks t n g) before after
+marks-all g e d h = rw (sym e, sym d) h
 
 threshold-of-requires : tie.Need-threshold-of-requires Inv-loop μ-loop
 threshold-of-requires c κs = search needs
 
 loop-holds : tie.Need-loop-holds Inv-loop μ-loop
-loop-holds c = search needs
+loop-holds c = (omega arith, front-none)
 
 mul-at-most : tie.Need-mul-at-most Inv-loop μ-loop
 mul-at-most c = search needs
@@ -42,16 +57,21 @@ loop-less : tie.Need-loop-less Inv-loop μ-loop
 loop-less c = search needs
 
 loop-again : tie.Need-loop-again Inv-loop μ-loop
-loop-again c = (omega arith, filled-more (c .before .before .before .loop .inv .1) (omega arith) (c .at-most .ensures))
+loop-again c =
+    let at = c .before .before .before in
+    let th = at-threshold at .threshold-of .result in
+    let g = now (at-start at .args .g) in
+    (omega arith, front-more (λ k. bit (le th (getD g k nan))) _ (at .loop .inv .1) (omega arith) (c .at-most .ensures))
 
 same-length : tie.Need-same-length Inv-loop μ-loop
 same-length c = search needs
 
 returns : tie.Need-returns Inv-loop μ-loop
 returns c =
-    let s = c .before .before .before .before .before in
-    let e : c .before .loop .k ≡ s .args .row * s .args .column = omega arith in
-    rw (e, c .before .before .threshold-of .ensures) at (c .before .loop .inv .1 .is)
+    let at = c .before in
+    let a = at-start at .args in
+    let e : at .loop .k ≡ a .row * a .column = omega arith in
+    marks-all (now (a .g)) (at-threshold at .threshold-of .ensures) e (at .loop .inv .1)
 
 pub edges-of-spec : {M : Type 1} → statement M
 edges-of-spec =

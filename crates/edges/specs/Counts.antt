@@ -1,23 +1,25 @@
 -- The search for the threshold's bits by counting, over parts of the sample. Only the contracts inside this crate need it.
-use Prim.Native.Nat.{ℕ, _+_, _-_, _*_, _/_, _%_, _≤_, _<_}
+use Prim.Native.Nat.{ℕ, _+_, _*_, _/_, _%_, _≤_, _<_}
 use mathlib.Core.Path.{_≡_}
 use mathlib.Core.List.{List}
 use lib.Ieee.{Float, nan, binary32, toBits}
 use lib.ListN.{getD}
 use Rattle.lists.specs.Tab.{grid}
 use Rattle.rank.specs.Rank.{entry}
-use Rattle.edges.specs.Edges.{clip}
+use Rattle.edges.specs.Edges.{middle, clip}
 use Rattle.edges.specs.declared.Range.{Range}
 
--- A part of the sample: one row of each s, and of it one p-th of the columns. Which row of the s is taken varies, and comes round
--- after 7 · s of them. With 1 and 1 it is the sample.
+-- how many rows a part of the sample has, or columns of each: one in s of the middle half of the side
+abbrev pub taken : ℕ → ℕ → ℕ
+taken s side = middle side / s
+
+-- Where row i of a part begins. Which row of each s is taken varies, and comes round after 7 · s of them; so does which p-th of its columns.
+abbrev pub start : ℕ → ℕ → ℕ → ℕ → ℕ → ℕ
+start s p row column i = (row / 4 + (s * i + i * i / 7 % s)) * column + (column / 4 + 3 * i % p * taken p column)
+
+-- a part of the sample: one row of each s, and of it one p-th of the columns. With 1 and 1 it is the sample.
 abbrev pub part : ℕ → ℕ → ℕ → ℕ → List Float → List Float
-part s p row column g =
-    let n = (3 * column / 4 - column / 4) / p in
-    grid
-    ((3 * row / 4 - row / 4) / s)
-    n
-    (λ i j. getD g ((row / 4 + (s * i + i * i / 7 % s)) * column + (column / 4 + 3 * i % p * n) + j) nan)
+part s p row column g = grid (taken s row) (taken p column) (λ i j. getD g (start s p row column i + j) nan)
 
 -- the bits of the clipped entry `rank`
 abbrev pub sought : List Float → ℕ → ℕ
