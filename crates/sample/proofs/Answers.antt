@@ -2,19 +2,22 @@
 use Prim.Native.Nat.{ℕ, zero, suc, _+_, _*_, _≤_, _<_}
 use mathlib.Core.Path.{_≡_, refl}
 use mathlib.Core.Bool.{Bool, true, false, cond, _&&_, _||_}
-use mathlib.Core.List.{List, _++_}
+use mathlib.Core.List.{List}
 use native.Mathlib.Nat.{not-suc-le-zero, mul-le-mul}
 use native.Mathlib.Omega.{arith}
 use borrow.Author.Tests.{ltb-true, ltb-false, le-ltb, ne-eqb}
 use lib.Dec.{ltb}
 use lib.Ieee.{Float}
-use lib.ListN.{length, take, drop}
+use lib.ListN.{length}
+use Rattle.lists.specs.Front.{AtFront}
+use Rattle.lists.proofs.Front.{front-none}
 use Rattle.board.specs.declared.Board.{Board}
-use Rattle.board.specs.Board.{leastPlaneSide, mostSize, sidesOutside}
+use Rattle.board.specs.Board.{leastPlaneSide, mostSize}
 use Rattle.board.proofs.Sides.{both, neither, passed}
-use Rattle.board.specs.Planes.{allUnits}
+use Rattle.board.specs.Planes.{planesAnswer}
 use Rattle.sample.specs.Copy.{AxisIn}
-use Rattle.sample.specs.Sample.{mostNumber, rowAt, columnAt, pitchOutside, allBelow, numbersAbove, cell, cellAnswer, sampleAnswer, SampleGives}
+use Rattle.sample.specs.Sample.{mostNumber, rowAt, columnAt, pitchOutside, allBelow, numbersAbove, cell, cellAnswer, sampleAnswer}
+use Rattle.sample.specs.Sample.{CellGives, SampleGives}
 
 -- two rules that agree below n
 pub all-below-same : (f g : ℕ → ℕ) (limit n : ℕ) → ((i : ℕ) → i < n → f i ≡ g i) → allBelow f limit n ≡ allBelow g limit n
@@ -33,14 +36,14 @@ below-at f limit (suc n) e i b =
     go false q h l = let s : i ≡ n = omega (arith, ltb-false i n q) in rw s l
 
 -- numbers within the limits
-pub record Within (x y r₁ c₁ r₀ c₀ size : ℕ) : Type 0 where
+pub record NumbersIn (x y r₁ c₁ r₀ c₀ size : ℕ) : Type 0 where
   pub down : AxisIn r₁ r₀ x size
   pub across : AxisIn c₁ c₀ y size
-  pub square : size * size ≤ 4096
+  pub square : size * size ≤ mostSize * mostSize
 
-pub within : (x y r₁ c₁ r₀ c₀ size : ℕ) → numbersAbove x y r₁ c₁ r₀ c₀ size ≡ false → Within x y r₁ c₁ r₀ c₀ size
+pub numbers-in : (x y r₁ c₁ r₀ c₀ size : ℕ) → numbersAbove x y r₁ c₁ r₀ c₀ size ≡ false → NumbersIn x y r₁ c₁ r₀ c₀ size
 unfolding numbersAbove
-within x y r₁ c₁ r₀ c₀ size e =
+numbers-in x y r₁ c₁ r₀ c₀ size e =
     let f = neither _ (ltb mostSize size) e in
     let e = neither _ (ltb mostNumber c₀) (f .0) in
     let d = neither _ (ltb mostNumber r₀) (e .0) in
@@ -57,7 +60,7 @@ within x y r₁ c₁ r₀ c₀ size e =
 
 -- what the answer 0 tells
 pub record Fit (b : Board) (x y size room : ℕ) : Type 0 where
-  pub numbers : Within x y (b .«r_1») (b .«c_1») (b .r0) (b .c0) size
+  pub numbers : NumbersIn x y (b .«r_1») (b .«c_1») (b .r0) (b .c0) size
   pub output : 3 * (size * size) ≤ room
   pub rows : (i : ℕ) → i < size → rowAt b x size i < b .height
   pub columns : (j : ℕ) → j < size → columnAt b y size j < b .width
@@ -76,7 +79,7 @@ fit b x y size room e =
     let columns = allBelow (columnAt b y size) (b .width) size in
     let a = both rows columns (all-in (rows && columns) (o .1)) in
     record {
-      numbers = within x y (b .«r_1») (b .«c_1») (b .r0) (b .c0) size (n .0);
+      numbers = numbers-in x y (b .«r_1») (b .«c_1») (b .r0) (b .c0) size (n .0);
       output = ltb-false room (3 * (size * size)) (o .0);
       rows = below-at (rowAt b x size) (b .height) size (a .0);
       columns = below-at (columnAt b y size) (b .width) size (a .1);
@@ -91,18 +94,21 @@ decided b x y size room p n o = rw (p, n, le-ltb _ _ o)
 
 -- ---- the ways out
 
-module _ (b : Board) (planes : List Float) (x y size : ℕ) (out : List Float) where
-  pub refused : (n expected : ℕ) → n ≡ expected → (n ≡ 0 → ⊥) → SampleGives b planes x y size out expected n out
-  refused n expected e z = record { answer-is = e; out-is = rw (ne-eqb n 0 z) }
+module _ (b : Board) (planes : List Float) (x y size : ℕ) (before : List Float) where
+  pub cell-refused : (n : ℕ) → n ≡ cellAnswer b x y size (length before) → (n ≡ 0 → ⊥) → CellGives b planes x y size before n before
+  cell-refused n e z = record { answer-is = e; out-is = rw (ne-eqb n 0 z) front-none }
 
-  pub copied : (n expected : ℕ) (left : List Float) → n ≡ expected → n ≡ 0
-      → left ≡ cell b planes x y size ++ drop (3 * (size * size)) out → SampleGives b planes x y size out expected n left
-  copied n expected left e z l = record { answer-is = e; out-is = rw z l }
+  pub cell-copied : (n : ℕ) (after : List Float) → n ≡ cellAnswer b x y size (length before) → n ≡ 0
+      → AtFront (cell b planes x y size) before after → CellGives b planes x y size before n after
+  cell-copied n after e z h = record { answer-is = e; out-is = rw z h }
+
+  pub refused : (n : ℕ) → n ≡ planesAnswer leastPlaneSide (b .height) (b .width) planes false → (n ≡ 0 → ⊥)
+      → SampleGives b planes x y size before n before
+  unfolding sampleAnswer
+  refused n e z = record { answer-is = rw (← e, ne-eqb n 0 z); out-is = rw (ne-eqb n 0 z) front-none }
 
   -- fit planes leave the answer to the cell
-  pub handed-on : (n : ℕ) (left : List Float) → sidesOutside leastPlaneSide (b .height) (b .width) ≡ false
-      → 3 * (b .height * b .width) ≤ length planes → allUnits (take (3 * (b .height * b .width)) planes) ≡ true
-      → SampleGives b planes x y size out (cellAnswer b x y size (length out)) n left
-      → SampleGives b planes x y size out (sampleAnswer b planes x y size (length out)) n left
+  pub handed-on : (n : ℕ) (after : List Float) → planesAnswer leastPlaneSide (b .height) (b .width) planes false ≡ 0
+      → CellGives b planes x y size before n after → SampleGives b planes x y size before n after
   unfolding sampleAnswer
-  handed-on n left s l u g = record { answer-is = rw (s, le-ltb _ _ l, u) (g .answer-is); out-is = g .out-is }
+  handed-on n after e g = record { answer-is = rw e (g .answer-is); out-is = g .out-is }

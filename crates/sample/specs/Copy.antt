@@ -1,5 +1,5 @@
 -- For the code: numbers that it may cast, and the values that it copies.
-use Prim.Native.Nat.{ℕ, _+_, _*_, _/_, _%_, _≤_}
+use Prim.Native.Nat.{ℕ, _+_, _*_, _≤_}
 use mathlib.Core.List.{List}
 use lib.Ieee.{Float, nan}
 use lib.ListN.{getD}
@@ -17,6 +17,6 @@ pub record AxisIn (corner offset x size : ℕ) : Type 0 where
 abbrev pub rowValue : List Float → ℕ → List ℕ → ℕ → Float
 rowValue planes from columns j = getD planes (from + getD columns j 0) nan
 
--- the values at `rows` and `columns` of the plane that starts at `from`, rows first
+-- the values at `rows` and `columns` of the plane that starts at `from`
 abbrev pub planeValue : List Float → ℕ → ℕ → List ℕ → List ℕ → ℕ → ℕ → Float
-planeValue planes from width rows columns size n = rowValue planes (from + getD rows (n / size) 0 * width) columns (n % size)
+planeValue planes from width rows columns i j = rowValue planes (from + getD rows i 0 * width) columns j

@@ -1,21 +1,18 @@
 -- 01, "Cell sampling", and its refusals. All operations are binary32, in the order written.
 use Prim.Native.Nat.{ℕ, zero, suc, _+_, _*_, _/_, _%_}
 use mathlib.Core.Path.{_≡_}
-use mathlib.Core.Bool.{Bool, true, not, cond, _&&_, _||_}
-use mathlib.Core.List.{List, _++_}
+use mathlib.Core.Bool.{Bool, true, false, not, cond, _&&_, _||_}
+use mathlib.Core.List.{List, []}
 use lib.Dec.{eqb, ltb}
-use lib.IntN.{pos}
-use lib.Ieee.{Float, binary32, le, add, mul, div, ofInt, ofBits}
-use lib.ListN.{length, take, drop}
-use Rattle.binary32.specs.Binary32.{trunc}
+use lib.Ieee.{Float, binary32, le, add, mul, div, ofBits}
+use lib.ListN.{length}
+use Rattle.binary32.specs.Binary32.{float, trunc}
+use Rattle.lists.specs.Front.{AtFront}
 use Rattle.lists.specs.Tab.{grid}
 use Rattle.board.specs.declared.Board.{Board}
-use Rattle.board.specs.Board.{leastPlaneSide, mostSize, sidesOutside}
+use Rattle.board.specs.Board.{leastPlaneSide, mostSize}
 use Rattle.board.specs.Screen.{view}
-use Rattle.board.specs.Planes.{allUnits}
-
-abbrev pub float : ℕ → Float
-float n = ofInt binary32 (pos n)
+use Rattle.board.specs.Planes.{planesAnswer}
 
 -- the row of point i of cell x: trunc(((corner + offset) + pitch·x) + ((pitch / 2.0) / size)·(2i + 1)); the column likewise.
 -- 2.0 and 1.0 stand by their bits.
@@ -68,13 +65,17 @@ cellAnswer b x y size room =
 
 -- the answer of a call, on any planes
 unfoldable pub sampleAnswer : Board → List Float → ℕ → ℕ → ℕ → ℕ → ℕ
-unfolding sidesOutside cellAnswer
+unfolding planesAnswer cellAnswer
 sampleAnswer b planes x y size room =
-    cond (sidesOutside leastPlaneSide (b .height) (b .width)) 1
-    (cond (ltb (length planes) (3 * (b .height * b .width))) 3
-    (cond (not (allUnits (take (3 * (b .height * b .width)) planes))) 4 (cellAnswer b x y size room)))
+    let a = planesAnswer leastPlaneSide (b .height) (b .width) planes false in
+    cond (eqb a 0) (cellAnswer b x y size room) a
 
--- what a call answers and leaves: the cell, then what was there; on a refusal nothing is written
-pub record SampleGives (b : Board) (planes : List Float) (x y size : ℕ) (out : List Float) (expected answer : ℕ) (left : List Float) : Type 0 where
-  pub answer-is : answer ≡ expected
-  pub out-is : left ≡ cond (eqb answer 0) (cell b planes x y size ++ drop (3 * (size * size)) out) out
+-- what a call answers, and what the output holds after it: the cell at its front; on a refusal nothing is written
+pub record SampleGives (b : Board) (planes : List Float) (x y size : ℕ) (before : List Float) (answer : ℕ) (after : List Float) : Type 0 where
+  pub answer-is : answer ≡ sampleAnswer b planes x y size (length before)
+  pub out-is : AtFront (cond (eqb answer 0) (cell b planes x y size) []) before after
+
+-- the same where the planes are fit
+pub record CellGives (b : Board) (planes : List Float) (x y size : ℕ) (before : List Float) (answer : ℕ) (after : List Float) : Type 0 where
+  pub answer-is : answer ≡ cellAnswer b x y size (length before)
+  pub out-is : AtFront (cond (eqb answer 0) (cell b planes x y size) []) before after

@@ -1,13 +1,13 @@
 // Sampling a cell of the board (01, "Cell sampling"). A call refuses with 1, 3, 4, 10, 11, 3 and 12, in that order, before it writes.
 // Definitions: specs/Sample; specs/Copy is for the inner functions.
 ghost use mathlib.Core.Path.{_≡_};
-ghost use mathlib.Core.List.{_++_};
 ghost use Prim.Native.Nat.{ℕ, _+_, _*_, _≤_, _<_};
-ghost use lib.ListN.{length, getD, drop};
+ghost use lib.ListN.{length, getD};
+ghost use Rattle.lists.specs.Front.{AtFront, Placed};
+ghost use Rattle.lists.specs.Tab.{tab, grid};
 ghost use Rattle.board.specs.Board.{mostSize};
 ghost use Rattle.sample.specs.Sample as Spec;
-ghost use Rattle.sample.specs.Sample.{sampledAt, cell, allBelow, cellAnswer, sampleAnswer, SampleGives};
-ghost use Rattle.lists.specs.Fill.{Extends};
+ghost use Rattle.sample.specs.Sample.{sampledAt, cell, allBelow, cellAnswer, CellGives, SampleGives};
 ghost use Rattle.sample.specs.Copy.{AxisIn, rowValue, planeValue};
 use board::Board;
 
@@ -72,7 +72,7 @@ fn places(
     at
 }
 
-// Whether the first `size` places are below the limit. No early end: there are at most 64.
+// Whether the first `size` places are below the limit. No early end: they are few.
 fn all_below(at: &[usize; Board::MOST_SIZE], size: usize, limit: usize) -> bool
     requires { ⌜ size ≤ mostSize ⌝ }
     ensures { λ r. ⌜ r ≡ allBelow (λ i. getD (now (at .entry)) i 0) limit size ⌝ }
@@ -125,7 +125,9 @@ fn copy_row(
 )
     requires { ⌜ (size ≤ mostSize) × (to + size ≤ length (now out)) ⌝ }
     requires { ⌜ ((j : ℕ) → j < size → from + getD (now columns) j 0 < length (now planes)) ⌝ }
-    ensures { λ _. ⌜ Extends size to (rowValue (now (planes .entry)) from (now (columns .entry))) (now (out .entry)) (now (out .exit)) ⌝ }
+    ensures { λ _. ⌜
+        Placed (tab size (rowValue (now (planes .entry)) from (now (columns .entry)))) to
+        (now (out .entry)) (now (out .exit)) ⌝ }
 {
     for j in 0..size {
         out[to + j] = planes[from + columns[j]];
@@ -145,7 +147,9 @@ fn copy_plane(
 )
     requires { ⌜ (size ≤ mostSize) × (to + size * size ≤ length (now out)) ⌝ }
     requires { ⌜ ((i j : ℕ) → i < size → j < size → from + getD (now rows) i 0 * width + getD (now columns) j 0 < length (now planes)) ⌝ }
-    ensures { λ _. ⌜ Extends (size * size) to (planeValue (now (planes .entry)) from width (now (rows .entry)) (now (columns .entry)) size) (now (out .entry)) (now (out .exit)) ⌝ }
+    ensures { λ _. ⌜
+        Placed (grid size size (planeValue (now (planes .entry)) from width (now (rows .entry)) (now (columns .entry)))) to
+        (now (out .entry)) (now (out .exit)) ⌝ }
 {
     for i in 0..size {
         copy_row(
@@ -163,7 +167,7 @@ fn copy_plane(
 fn copy_cell(b: Board, planes: &[f32], x: usize, y: usize, size: usize, out: &mut [f32])
     requires { ⌜ 3 * (b .height * b .width) ≤ length (now planes) ⌝ }
     requires { ⌜ cellAnswer b x y size (length (now out)) ≡ 0 ⌝ }
-    ensures { λ _. ⌜ now (out .exit) ≡ cell b (now (planes .entry)) x y size ++ drop (3 * (size * size)) (now (out .entry)) ⌝ }
+    ensures { λ _. ⌜ AtFront (cell b (now (planes .entry)) x y size) (now (out .entry)) (now (out .exit)) ⌝ }
 {
     let rows = places(b.r_1, b.r0, b.pixelr, x, size);
     let columns = places(b.c_1, b.c0, b.pixelc, y, size);
@@ -184,7 +188,7 @@ fn copy_cell(b: Board, planes: &[f32], x: usize, y: usize, size: usize, out: &mu
 // A cell, without the check of plane values: a call over many cells could make it once.
 pub fn cell_of(b: Board, planes: &[f32], x: usize, y: usize, size: usize, out: &mut [f32]) -> u32
     requires { ⌜ 3 * (b .height * b .width) ≤ length (now planes) ⌝ }
-    ensures { λ r. ⌜ SampleGives b (now (planes .entry)) x y size (now (out .entry)) (cellAnswer b x y size (length (now (out .entry)))) r (now (out .exit)) ⌝ }
+    ensures { λ r. ⌜ CellGives b (now (planes .entry)) x y size (now (out .entry)) r (now (out .exit)) ⌝ }
 {
     let answer = cell_answer(b, x, y, size, out.len());
     if answer == 0 {
@@ -202,16 +206,17 @@ pub fn extra_save_cell(
     size: usize,
     out: &mut [f32],
 ) -> u32
-    ensures { λ r. ⌜ SampleGives b (now (planes .entry)) x y size (now (out .entry)) (sampleAnswer b (now (planes .entry)) x y size (length (now (out .entry)))) r (now (out .exit)) ⌝ }
+    ensures { λ r. ⌜ SampleGives b (now (planes .entry)) x y size (now (out .entry)) r (now (out .exit)) ⌝ }
 {
-    if board::sides_outside(Board::LEAST_PLANE_SIDE, b.height, b.width) {
-        return 1;
+    let refusal = board::planes_answer(
+        Board::LEAST_PLANE_SIDE,
+        b.height,
+        b.width,
+        planes,
+        false,
+    );
+    if refusal != 0 {
+        return refusal;
     }
-    if planes.len() < 3 * (b.height * b.width) {
-        return 3;
-    }
-    if board::all_units(planes, 3 * (b.height * b.width)) {
-        return cell_of(b, planes, x, y, size, out);
-    }
-    4
+    cell_of(b, planes, x, y, size, out)
 }

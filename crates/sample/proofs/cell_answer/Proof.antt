@@ -4,7 +4,7 @@ use mathlib.Core.Bool.{false, cond, _&&_, _||_}
 use native.Mathlib.Omega.{arith}
 use borrow.Author.Tests.{lt-ltb}
 use Rattle.sample.specs.Sample.{pitchOutside, numbersAbove, cellAnswer}
-use Rattle.sample.proofs.Answers.{Within, within, decided}
+use Rattle.sample.proofs.Answers.{NumbersIn, numbers-in, decided}
 use Rattle.sample.proofs.cell_answer.Statement.{statement}
 use Rattle.sample.proofs.cell_answer.Tie as tie
 
@@ -17,8 +17,8 @@ above : (c : tie.Else2) → let s = c .before .before .before .before .before .a
 above c = sym (c .before .numbers-above .ensures) ∙ c .if2 .left
 
 numbers : (c : tie.Else2) → let s = c .before .before .before .before .before .args in let b = s .b in
-    Within (s .x) (s .y) (b .«r_1») (b .«c_1») (b .r0) (b .c0) (s .size)
-numbers c = within _ _ _ _ _ _ _ (above c)
+    NumbersIn (s .x) (s .y) (b .«r_1») (b .«c_1») (b .r0) (b .c0) (s .size)
+numbers c = numbers-in _ _ _ _ _ _ _ (above c)
 
 places : (c : tie.After-inside2) → let s = c .before .before .before .before .before .before .before .before .args in
     cellAnswer (s .b) (s .x) (s .y) (s .size) (s .room) ≡ cond (c .before .inside .result && c .inside2 .result) 0 12

@@ -1,20 +1,21 @@
--- `sample::copy_cell` meets its contract. The loop's invariant: the planes passed are filled by the cell's rule. What falls: the planes left.
+-- `sample::copy_cell` meets its contract. The loop's invariant: the cell's planes passed stand at the front. What falls: the planes left.
 use Prim.Native.Nat.{_+_, _-_, _*_, _≤_}
 use mathlib.Core.Path.{_≡_}
 use native.Mathlib.Nat.{zero-mul}
 use native.Mathlib.Omega.{arith}
 use lib.ListN.{length}
-use Rattle.sample.proofs.Answers.{Fit, fit}
-use Rattle.sample.proofs.Cells.{cellValue, Placed, place-in, value-is}
-use Rattle.lists.specs.Fill.{Extends}
+use Rattle.lists.specs.Front.{AtFront}
+use Rattle.lists.specs.Tab.{grid}
+use Rattle.lists.proofs.Front.{front-none, front-row}
 use Rattle.lists.proofs.Grid.{row-fits}
-use Rattle.lists.proofs.Extend.{extends-none, extends-row, extends-whole}
+use Rattle.sample.proofs.Answers.{Fit, fit}
+use Rattle.sample.proofs.Cells.{cellPlane, PlacesAre, place-in, plane-is}
 use borrow.Author.Needs.{needs}
 use Rattle.sample.proofs.copy_cell.Statement.{statement}
 use Rattle.sample.proofs.copy_cell.Tie as tie
 
 abbrev Inv-loop : tie.InvT-loop
-Inv-loop b planes x y size out₀ rows columns k₀ out k = (k ≤ 3) × Extends (k * (size * size)) 0 (cellValue b planes x y size) out₀ out
+Inv-loop b planes x y size out₀ rows columns k₀ out k = (k ≤ 3) × AtFront (grid k (size * size) (cellPlane b planes x y size)) out₀ out
 
 abbrev μ-loop : tie.MeasureT-loop
 μ-loop b planes x y size out₀ rows columns k₀ out k = 3 - k
@@ -25,7 +26,7 @@ fits : (c : tie.After-slice-known Inv-loop μ-loop) → let s = c .before .befor
 fits c = fit _ _ _ _ _ (c .before .before .pre .1)
 
 placed : (c : tie.After-places2 Inv-loop μ-loop) → let s = c .before .before .before .before .args in
-    Placed (s .b) (s .x) (s .y) (s .size) (length (s .out .now)) (c .before .places .result) (c .places2 .result)
+    PlacesAre (s .b) (s .x) (s .y) (s .size) (length (s .out .now)) (c .before .places .result) (c .places2 .result)
 placed c = record { fit = fits (c .before .before); rows-are = c .before .places .ensures; columns-are = c .places2 .ensures }
 
 -- a plane has its place in the output
@@ -42,7 +43,7 @@ places-requires-2 : tie.Need-places-requires-2 Inv-loop μ-loop
 places-requires-2 c κs = fits (c .before) .numbers .across
 
 loop-holds : tie.Need-loop-holds Inv-loop μ-loop
-loop-holds c = (omega arith, rw zero-mul (extends-none _ _))
+loop-holds c = (omega arith, rw zero-mul front-none)
 
 mul-copy-plane : tie.Need-mul-copy-plane Inv-loop μ-loop
 mul-copy-plane c = omega arith
@@ -78,15 +79,15 @@ loop-again c =
     let at = c .before .before .before .before .before .before .before .before in
     let s = at .before .before .before .before .before .args in (
       omega arith,
-      extends-row _ _ (at .loop .k) (s .size * s .size) (at .loop .inv .1) (c .before .before .copy-plane .ensures) (omega arith)
-          (λ n b. value-is (s .planes .now) (placed (at .before)) (at .loop .k) n b),
+      front-row (cellPlane (s .b) (s .planes .now) (s .x) (s .y) (s .size)) (at .loop .k) (s .size * s .size) (at .loop .inv .1)
+          (rw (plane-is (s .planes .now) (placed (at .before)) (at .loop .k)) at (c .before .before .copy-plane .ensures)),
     )
 
 same-length : tie.Need-same-length Inv-loop μ-loop
 same-length c = search needs
 
 returns : tie.Need-returns Inv-loop μ-loop
-returns c = let e : c .before .loop .k ≡ 3 = omega arith in extends-whole (rw e at (c .before .loop .inv .1))
+returns c = let e : c .before .loop .k ≡ 3 = omega arith in rw e at (c .before .loop .inv .1)
 
 pub copy-cell-spec : {M : Type 1} → statement M
 copy-cell-spec =

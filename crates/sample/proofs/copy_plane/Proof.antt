@@ -1,21 +1,22 @@
--- `sample::copy_plane` meets its contract. The loop's invariant: the rows passed are filled from `to` on. What falls: the rows left.
+-- `sample::copy_plane` meets its contract. The loop's invariant: the rows passed stand from `to` on. What falls: the rows left.
 use Prim.Native.Nat.{_+_, _-_, _*_, _≤_, _<_}
 use mathlib.Core.Path.{_≡_, refl}
 use native.Mathlib.Nat.{zero-mul}
 use native.Mathlib.Omega.{arith}
 use lib.Arith.{digits-div, digits-mod}
 use lib.ListN.{length, getD}
-use Rattle.sample.specs.Copy.{planeValue}
-use Rattle.lists.specs.Fill.{Extends}
+use Rattle.lists.specs.Front.{Placed}
+use Rattle.lists.specs.Tab.{grid}
+use Rattle.lists.proofs.Front.{placed-none, placed-row}
 use Rattle.lists.proofs.Grid.{row-fits}
-use Rattle.lists.proofs.Extend.{extends-none, extends-row}
+use Rattle.sample.specs.Copy.{planeValue}
 use borrow.Author.Needs.{needs}
 use Rattle.sample.proofs.copy_plane.Statement.{statement}
 use Rattle.sample.proofs.copy_plane.Tie as tie
 
 abbrev Inv-loop : tie.InvT-loop
 Inv-loop planes from width rows columns size out₀ to i₀ out i =
-    (i ≤ size) × Extends (i * size) to (planeValue planes from width rows columns size) out₀ out
+    (i ≤ size) × Placed (grid i size (planeValue planes from width rows columns)) to out₀ out
 
 abbrev μ-loop : tie.MeasureT-loop
 μ-loop planes from width rows columns size out₀ to i₀ out i = size - i
@@ -32,7 +33,7 @@ room : (c : tie.In-loop Inv-loop μ-loop) → let s = c .before .before .before 
 room c = row-fits _ _ _ (c .loop-test .taken)
 
 loop-holds : tie.Need-loop-holds Inv-loop μ-loop
-loop-holds c = (omega arith, rw zero-mul (extends-none _ _))
+loop-holds c = (omega arith, rw zero-mul placed-none)
 
 mul-copy-row : tie.Need-mul-copy-row Inv-loop μ-loop
 mul-copy-row c = search needs
@@ -67,10 +68,11 @@ loop-less c = search needs
 
 loop-again : tie.Need-loop-again Inv-loop μ-loop
 loop-again c =
-    let s = c .before .before .before .before .before .before .before .before .before .args in
-    let at = c .before .before .before .before .before .before .loop in (
+    let turn = c .before .before .before .before .before in
+    let at = turn .before .loop in
+    let size = turn .before .before .before .before .args .size in (
       omega arith,
-      extends-row _ _ (at .i) (s .size) (at .inv .1) (c .before .before .copy-row .ensures) refl
+      placed-row _ _ (at .i) size (at .inv .1) (c .before .before .copy-row .ensures) refl (omega (arith, room turn))
           (λ j b. rw (digits-div (at .i) b, digits-mod (at .i) b)),
     )
 

@@ -1,17 +1,18 @@
--- `sample::copy_row` meets its contract. The loop's invariant: the columns passed are filled from `to` on. What falls: the columns left.
+-- `sample::copy_row` meets its contract. The loop's invariant: the values at the columns passed stand from `to` on. What falls: the columns left.
 use Prim.Native.Nat.{_+_, _-_, _≤_, _<_}
 use mathlib.Core.Path.{_≡_, refl}
 use native.Mathlib.Omega.{arith}
 use lib.ListN.{length, getD}
+use Rattle.lists.specs.Front.{Placed}
+use Rattle.lists.specs.Tab.{tab}
+use Rattle.lists.proofs.Front.{placed-none, placed-more}
 use Rattle.sample.specs.Copy.{rowValue}
-use Rattle.lists.specs.Fill.{Extends}
-use Rattle.lists.proofs.Extend.{extends-none, extends-more}
 use borrow.Author.Needs.{needs}
 use Rattle.sample.proofs.copy_row.Statement.{statement}
 use Rattle.sample.proofs.copy_row.Tie as tie
 
 abbrev Inv-loop : tie.InvT-loop
-Inv-loop planes from columns size out₀ to j₀ out j = (j ≤ size) × Extends j to (rowValue planes from columns) out₀ out
+Inv-loop planes from columns size out₀ to j₀ out j = (j ≤ size) × Placed (tab j (rowValue planes from columns)) to out₀ out
 
 abbrev μ-loop : tie.MeasureT-loop
 μ-loop planes from columns size out₀ to j₀ out j = size - j
@@ -22,7 +23,7 @@ read : (c : tie.In-loop Inv-loop μ-loop) → let s = c .before .before .args in
 read c = c .before .before .pre .1 (c .before .loop .j) (c .loop-test .taken)
 
 loop-holds : tie.Need-loop-holds Inv-loop μ-loop
-loop-holds c = (omega arith, extends-none _ _)
+loop-holds c = (omega arith, placed-none)
 
 mul-out : tie.Need-mul-out Inv-loop μ-loop
 mul-out c = search needs
@@ -55,7 +56,9 @@ loop-less : tie.Need-loop-less Inv-loop μ-loop
 loop-less c = search needs
 
 loop-again : tie.Need-loop-again Inv-loop μ-loop
-loop-again c = (omega arith, extends-more _ _ (c .before .before .before .loop .inv .1) (omega arith) refl)
+loop-again c =
+    let at = c .before .before .before .loop in
+    (omega arith, placed-more _ (at .j) (at .inv .1) (omega arith) refl)
 
 same-length : tie.Need-same-length Inv-loop μ-loop
 same-length c = search needs
