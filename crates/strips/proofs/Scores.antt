@@ -1,4 +1,5 @@
--- The score list: its length, its entries, and how its parts make it. Assumes nothing.
+-- The scored places and the score list: how many they are, their entries, and how the parts make the list. Only `middles` and `place-count`
+-- know the number. Assumes nothing.
 use Prim.Native.Nat.{ℕ, zero, suc, _+_, _-_, _≤_, _<_}
 use mathlib.Core.Path.{_≡_, refl, ap, _∙_}
 use mathlib.Core.Bool.{Bool}
@@ -8,17 +9,56 @@ use native.Mathlib.Omega.{arith}
 use lib.ListN.{length, getD, set, drop, length-append, length-map, length-drop}
 use borrow.Rule.Slice.PartMut.{putMid, midOf, mid-len}
 use lib.Seq.{drop-drop}
+use Rattle.lists.specs.Front.{AtFront}
 use Rattle.lists.specs.Tab.{tabFrom, tab}
 use Rattle.lists.proofs.Fill.{length-tabFrom}
-use Rattle.strips.specs.Strip.{Place, at, places, score, scores}
-use Rattle.strips.specs.States.{bordered}
+use Rattle.lists.proofs.Front.{front-by}
+use Rattle.lanes.specs.Score.{Place, at, score}
+use Rattle.strips.specs.Strip.{places, placeCount, scores}
+use Rattle.strips.specs.States.{sweptScores, bordered}
 
-pub length-places : (c₁ c₂ : ℕ) → c₁ + 4 ≤ c₂ → length (places c₁ c₂) ≡ c₂ - c₁
-length-places c₁ c₂ h = simp (length-append, length-tabFrom) (omega arith)
+-- ---- how many
 
-pub length-scores : (E : ℕ → ℕ → Bool) (from to c₁ c₂ : ℕ) → c₁ + 4 ≤ c₂ → length (scores E from to c₁ c₂) ≡ c₂ - c₁
-unfolding scores
-length-scores E from to c₁ c₂ h = length-map (places c₁ c₂) (score E from to) ∙ length-places c₁ c₂ h
+-- the border places with those of n strips with target lane 2 between them
+abbrev framed : ℕ → ℕ → ℕ → List Place
+framed c₁ c₂ n = (at c₁ 0 ∷ at c₁ 1 ∷ []) ++ (tab n (λ i. at (c₁ + i) 2) ++ (at (c₂ - 4) 3 ∷ at (c₂ - 4) 4 ∷ []))
+
+framed-length : (c₁ c₂ n : ℕ) → length (framed c₁ c₂ n) ≡ n + 4
+framed-length c₁ c₂ n = simp (length-append, length-tabFrom) (omega arith)
+
+-- how many strips with target lane 2 there are
+abbrev middles : ℕ → ℕ → ℕ
+middles c₁ c₂ = c₂ - c₁ - 4
+
+framed-again : (c₁ c₂ n : ℕ) → (framed c₁ c₂ n ≡ framed c₁ c₂ (length (framed c₁ c₂ n) - 4)) × (4 ≤ length (framed c₁ c₂ n))
+framed-again c₁ c₂ n =
+    let e : n ≡ length (framed c₁ c₂ n) - 4 = omega (arith, framed-length c₁ c₂ n) in
+    (ap (framed c₁ c₂) e, omega (arith, framed-length c₁ c₂ n))
+
+places-are : (c₁ c₂ : ℕ) → places c₁ c₂ ≡ framed c₁ c₂ (placeCount c₁ c₂ - 4)
+unfolding placeCount
+places-are c₁ c₂ = framed-again c₁ c₂ (middles c₁ c₂) .0
+
+pub count-is : (c₁ c₂ : ℕ) → placeCount c₁ c₂ ≡ length (places c₁ c₂)
+unfolding placeCount
+count-is c₁ c₂ = refl
+
+pub place-count : (c₁ c₂ : ℕ) → c₁ + 4 ≤ c₂ → placeCount c₁ c₂ ≡ c₂ - c₁
+place-count c₁ c₂ h = count-is c₁ c₂ ∙ framed-length c₁ c₂ (middles c₁ c₂) ∙ omega arith
+
+-- what callers need of the number
+pub count-least : (c₁ c₂ : ℕ) → 4 ≤ placeCount c₁ c₂
+unfolding placeCount
+count-least c₁ c₂ = framed-again c₁ c₂ (middles c₁ c₂) .1
+
+pub count-most : (c₁ c₂ : ℕ) → c₁ + 4 ≤ c₂ → placeCount c₁ c₂ ≤ c₂ - c₁ + 1
+count-most c₁ c₂ h = omega (arith, place-count c₁ c₂ h)
+
+pub length-scores : (E : ℕ → ℕ → Bool) (from to c₁ c₂ : ℕ) → length (scores E from to c₁ c₂) ≡ placeCount c₁ c₂
+unfolding scores placeCount
+length-scores E from to c₁ c₂ = length-map (places c₁ c₂) (score E from to)
+
+-- ---- entries
 
 getD-map : {A B : Type 0} (f : A → B) (l : List A) (i : ℕ) (z : A) (y : B) → i < length l → getD (map f l) i y ≡ f (getD l i z)
 getD-map f [] i z y h = absurd (not-suc-le-zero h)
@@ -26,10 +66,10 @@ getD-map f (x ∷ l) zero z y h = refl
 getD-map f (x ∷ l) (suc i) z y h = getD-map f l i z y (le-of-suc-le-suc h)
 
 -- each entry of the list is the score of its place
-pub score-at : (E : ℕ → ℕ → Bool) (from to c₁ c₂ i : ℕ) → c₁ + 4 ≤ c₂ → i < c₂ - c₁ →
+pub score-at : (E : ℕ → ℕ → Bool) (from to c₁ c₂ i : ℕ) → i < placeCount c₁ c₂ →
     getD (scores E from to c₁ c₂) i 0 ≡ score E from to (getD (places c₁ c₂) i (at 0 0))
-unfolding scores
-score-at E from to c₁ c₂ i h l = getD-map (score E from to) (places c₁ c₂) i (at 0 0) 0 (rw (length-places c₁ c₂ h) l)
+unfolding scores placeCount
+score-at E from to c₁ c₂ i l = getD-map (score E from to) (places c₁ c₂) i (at 0 0) 0 l
 
 -- every lane of a list of places is one of five
 abbrev OnStrip : List Place → Type 0
@@ -50,13 +90,15 @@ on-tab from zero c i = omega arith
 on-tab from (suc n) c zero = omega arith
 on-tab from (suc n) c (suc i) = on-tab (suc from) n c i
 
-pub place-lane : (c₁ c₂ i : ℕ) → getD (places c₁ c₂) i (at 0 0) .lane ≤ 4
-place-lane c₁ c₂ =
-    let first : List Place = at c₁ 0 ∷ at c₁ 1 ∷ [] in
-    let middle : List Place = tab (c₂ - c₁ - 4) (λ i. at (c₁ + i) 2) in
+on-framed : (c₁ c₂ n : ℕ) → OnStrip (framed c₁ c₂ n)
+on-framed c₁ c₂ n =
+    let middle : List Place = tab n (λ i. at (c₁ + i) 2) in
     let last : List Place = at (c₂ - 4) 3 ∷ at (c₂ - 4) 4 ∷ [] in
-    let more = on-append middle last (on-tab 0 (c₂ - c₁ - 4) (λ i. c₁ + i)) (on-pair (c₂ - 4) 3 (omega arith)) in
-    on-append first (middle ++ last) (on-pair c₁ 0 (omega arith)) more
+    let more = on-append middle last (on-tab 0 n (λ i. c₁ + i)) (on-pair (c₂ - 4) 3 (omega arith)) in
+    on-append (at c₁ 0 ∷ at c₁ 1 ∷ []) (middle ++ last) (on-pair c₁ 0 (omega arith)) more
+
+pub place-lane : (c₁ c₂ i : ℕ) → getD (places c₁ c₂) i (at 0 0) .lane ≤ 4
+place-lane c₁ c₂ = on-framed c₁ c₂ (middles c₁ c₂)
 
 -- no score is above the number of steps
 pub scores-most : (E : ℕ → ℕ → Bool) (from to c₁ c₂ i : ℕ) → getD (scores E from to c₁ c₂) i 0 ≤ to - from
@@ -100,24 +142,25 @@ parts (p ∷ q ∷ d) ys a b x y h =
 module _ (E : ℕ → ℕ → Bool) (from to c₁ c₂ : ℕ) where
   scores-parts : scores E from to c₁ c₂ ≡
       (score E from to (at c₁ 0) ∷ score E from to (at c₁ 1) ∷ [])
-      ++ (tab (c₂ - c₁ - 4) (λ i. score E from to (at (c₁ + i) 2)) ++ (score E from to (at (c₂ - 4) 3) ∷ score E from to (at (c₂ - 4) 4) ∷ []))
+      ++ (sweptScores E from to c₁ (placeCount c₁ c₂ - 4) ++ (score E from to (at (c₂ - 4) 3) ∷ score E from to (at (c₂ - 4) 4) ∷ []))
   unfolding scores
   scores-parts =
       let p : ℕ → Place = λ i. at (c₁ + i) 2 in
-      rw (map-append (score E from to) (tab (c₂ - c₁ - 4) p) _, map-tab (score E from to) p 0 (c₂ - c₁ - 4))
+      let n = placeCount c₁ c₂ - 4 in
+      ap (map (score E from to)) (places-are c₁ c₂) ∙ rw (map-append (score E from to) (tab n p) _, map-tab (score E from to) p 0 n)
 
   -- the middle as a part of a list, and the border places at its ends, make the scores
-  pub joined : (d m u : List ℕ) → c₁ + 4 ≤ c₂ → c₂ - c₁ ≤ length d →
-      m ≡ tab (length (midOf 2 (c₂ - c₁ - 2 - 2) d)) (λ i. score E from to (at (c₁ + i) 2)) →
-      u ≡ bordered E from to c₁ c₂ (putMid 2 (c₂ - c₁ - 2 - 2) d m) →
-      u ≡ scores E from to c₁ c₂ ++ drop (c₂ - c₁) d
-  joined d m u h l em eu =
-      let g : ℕ → ℕ = λ i. score E from to (at (c₁ + i) 2) in
-      let ys : List ℕ = tab (c₂ - c₁ - 4) g in
-      let len : length ys ≡ c₂ - c₁ - 4 = length-tabFrom 0 (c₂ - c₁ - 4) g in
-      let mid : length (midOf 2 (c₂ - c₁ - 2 - 2) d) ≡ c₂ - c₁ - 4 = mid-len 2 (c₂ - c₁ - 2) d (omega arith) ∙ omega arith in
+  pub joined : (n : ℕ) (d m u : List ℕ) → n ≡ placeCount c₁ c₂ → n ≤ length d →
+      m ≡ sweptScores E from to c₁ (length (midOf 2 (n - 2 - 2) d)) →
+      u ≡ bordered E from to c₁ c₂ (putMid 2 (n - 2 - 2) d m) → AtFront (scores E from to c₁ c₂) d u
+  joined n d m u count l em eu =
+      let ys : List ℕ = sweptScores E from to c₁ (n - 4) in
+      let least : 4 ≤ n = rw count (count-least c₁ c₂) in
+      let len : length ys ≡ n - 4 = length-tabFrom 0 (n - 4) _ in
+      let mid : length (midOf 2 (n - 2 - 2) d) ≡ n - 4 = mid-len 2 (n - 2) d (omega arith) ∙ omega arith in
       let is : m ≡ ys = rw mid at em in
-      let k : c₂ - c₁ - 2 - 2 ≡ length ys = omega arith in
-      let o : c₂ - c₁ - 2 ≡ 2 + length ys = omega arith in
-      let t : length ys + 4 ≡ c₂ - c₁ = omega arith in
-      eu ∙ rw (k, o, is) (parts d ys _ _ _ _ (omega arith) ∙ rw (t, scores-parts))
+      let k : n - 2 - 2 ≡ length ys = omega arith in
+      let o : n - 2 ≡ 2 + length ys = omega arith in
+      let t : length ys + 4 ≡ n = omega arith in
+      front-by n (length-scores E from to c₁ c₂ ∙ rw count) l
+      (eu ∙ rw (← count, k, o, is) (parts d ys _ _ _ _ (omega arith) ∙ rw (t, scores-parts, ← count)))

@@ -11,9 +11,10 @@ use lib.Dec.{eqb, ltb}
 use lib.ListN.{length, getD, set, take, length-set, List·getD-eq-default}
 use lib.Seq.{getD-set-same, getD-set-other, getD-take, length-take-le}
 use Rattle.lists.specs.Picture.{points}
-use Rattle.strips.specs.Strip.{at, onStrip, score}
-use Rattle.strips.specs.States.{Marks, Copied, Turned}
-use Rattle.strips.proofs.Walks.{least-same}
+use Rattle.lanes.specs.Score.{at, onStrip, score}
+use Rattle.lanes.specs.States.{Marks}
+use Rattle.strips.specs.States.{Copied, Turned}
+use Rattle.lanes.proofs.Walks.{least-cost-same}
 
 -- a place in rows of b is in one row, at one column
 same-row : (b j d k f : ℕ) → d < b → f < b → j * b + d ≡ k * b + f → j ≡ k
@@ -120,7 +121,7 @@ module _ (e : List ℕ) (r stride from n b : ℕ) (s t : List ℕ) (u : Turned e
       let z : to - from - 0 ≡ to - from = omega arith in
       let p = onStrip (points b 1 (take (n * b) t)) 0 (at (0 + i) 2) in
       let q = onStrip (points 1 stride e) from (at (r + i) 2) in
-      rw (z, least-same p q 2 (to - from) same 2 (omega arith))
+      rw (z, least-cost-same p q 2 (to - from) same 2 (omega arith))
     where
       same : (k j : ℕ) → k ≤ to - from → j ≤ 4 → points b 1 (take (n * b) t) (0 + k) (0 + i + j) ≡ points 1 stride e (from + k) (r + i + j)
       same k j a c =

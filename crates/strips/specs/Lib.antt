@@ -1,3 +1,2 @@
-pub mod Walk
 pub mod Strip
 pub mod States

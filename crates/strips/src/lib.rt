@@ -1,157 +1,20 @@
-// Column and row scores (01, "Path scores"). Their promises rest on specs/Strip and specs/Walk. Laws for callers: proofs/Walks, proofs/Scores.
-// A lane's state is 5 and the steps so far, less the least cost: a set point adds 1, a sideways move takes 1 off, and none falls below 1.
+// Column and row scores (01, "Path scores"). Their promises rest on specs/Strip; a strip by itself is the crate lanes.
+// Laws for callers: proofs/Scores.
 use board::Bounds;
+use lanes::Lanes;
 ghost use mathlib.Core.Path.{_≡_};
 ghost use mathlib.Core.Bool.{Bool};
-ghost use mathlib.Core.List.{_++_};
-ghost use Prim.Native.Nat.{ℕ, _≤_, _<_, _+_, _*_, _-_, max};
-ghost use lib.ListN.{length, getD, drop};
+ghost use Prim.Native.Nat.{ℕ, _≤_, _<_, _+_, _*_, _-_};
+ghost use lib.ListN.{length, getD};
+ghost use Rattle.lists.specs.Front.{AtFront};
 ghost use Rattle.lists.specs.Tab.{tab};
 ghost use Rattle.lists.specs.Picture.{points};
-ghost use Rattle.strips.specs.Walk.{apart};
-ghost use Rattle.strips.specs.Strip.{at, onward, score, columnScores, rowScores};
-ghost use Rattle.strips.specs.States.{Marks, Scorable, Holds, Below, unset, Advanced, lanesOf, Stored, Swept, twoScores, bordered, Copied, Turned};
+ghost use Rattle.lanes.specs.States.{Marks};
+ghost use Rattle.strips.specs.Strip.{placeCount, columnScores, rowScores};
+ghost use Rattle.strips.specs.States.{Scorable, lanesOf, Stored, Swept, sweptScores, twoScores, bordered, Copied, Turned};
 
 // The lanes of up to 4096 strips: lane j of strip i at 4096 * j + i.
 type States = [u16; 20480];
-
-// Lanes 0 to 4 of one strip.
-struct Lanes {
-    a: u16,
-    b: u16,
-    c: u16,
-    d: u16,
-    e: u16,
-}
-
-fn most(a: u16, b: u16) -> u16
-    ensures { λ r. ⌜ r ≡ max a b ⌝ }
-{
-    if a > b { a } else { b }
-}
-
-fn less(x: u16) -> u16
-    ensures { λ r. ⌜ r ≡ x - 1 ⌝ }
-{
-    if x > 0 { x - 1 } else { 0 }
-}
-
-// Lane j with the point that it leaves from, where the points of a row start at o and lie `across` apart.
-fn with_point(e: &[u8], o: usize, across: usize, j: usize, x: u16) -> u16
-    requires { ⌜ (o + 4 * across < length (now e)) × Marks (now e) × (j ≤ 4) × (x ≤ 60000) ⌝ }
-    ensures { λ r. ⌜ ((n c : ℕ) → x + c ≡ n → r + (c + unset (now (e .entry)) (o + j * across)) ≡ n + 1) ⌝ }
-{
-    x + e[o + j * across] as u16
-}
-
-fn with_points(e: &[u8], o: usize, across: usize, v: Lanes) -> Lanes
-    requires { ⌜ (o + 4 * across < length (now e)) × Marks (now e) × (v .a + v .b + v .c + v .d + v .e ≤ 60000) ⌝ }
-    ensures { λ r. ⌜ ((n : ℕ) (cost : ℕ → ℕ) → Holds n cost v → Holds (n + 1) (λ j. cost j + unset (now (e .entry)) (o + j * across)) r) ⌝ }
-{
-    Lanes {
-        a: with_point(e, o, across, 0, v.a),
-        b: with_point(e, o, across, 1, v.b),
-        c: with_point(e, o, across, 2, v.c),
-        d: with_point(e, o, across, 3, v.d),
-        e: with_point(e, o, across, 4, v.e),
-    }
-}
-
-// A lane from itself or from a lane beside it.
-fn best(own: u16, left: u16, right: u16) -> u16
-    ensures { λ r. ⌜ r ≡ max own (max left right - 1) ⌝ }
-{
-    most(own, less(most(left, right)))
-}
-
-// A border lane has one neighbour.
-fn sideways(v: Lanes) -> Lanes
-    ensures { λ r. ⌜ ((n : ℕ) (cost : ℕ → ℕ) → Below n cost → Holds n cost v → Holds n (onward cost) r) ⌝ }
-{
-    Lanes {
-        a: best(v.a, v.b, v.b),
-        b: best(v.b, v.a, v.c),
-        c: best(v.c, v.b, v.d),
-        d: best(v.d, v.c, v.e),
-        e: best(v.e, v.d, v.d),
-    }
-}
-
-// One row on. The point of the new row is looked at in the old lane.
-fn advanced(e: &[u8], o: usize, across: usize, v: Lanes) -> Lanes
-    requires { ⌜ (o + 4 * across < length (now e)) × Marks (now e) × (v .a + v .b + v .c + v .d + v .e ≤ 60000) ⌝ }
-    ensures { λ r. ⌜ Advanced (now (e .entry)) o across v r ⌝ }
-{
-    sideways(with_points(e, o, across, v))
-}
-
-// 5 less how far a lane lies from the target.
-fn near(j: u16, k: u16) -> u16
-    requires { ⌜ (j ≤ 4) × (k ≤ 4) ⌝ }
-    ensures { λ r. ⌜ r + apart j k ≡ 5 ⌝ }
-{
-    if j < k { 5 + j - k } else { 5 + k - j }
-}
-
-// The lanes before the first step.
-fn start(k: u16) -> Lanes
-    requires { ⌜ k ≤ 4 ⌝ }
-    ensures { λ r. ⌜ Holds 5 (λ j. apart j k) r ⌝ }
-{
-    Lanes {
-        a: near(0, k),
-        b: near(1, k),
-        c: near(2, k),
-        d: near(3, k),
-        e: near(4, k),
-    }
-}
-
-fn lane(v: Lanes, k: u16) -> u16
-    requires { ⌜ k ≤ 4 ⌝ }
-    ensures { λ r. ⌜ ((n : ℕ) (cost : ℕ → ℕ) → Holds n cost v → r + cost k ≡ n) ⌝ }
-{
-    if k == 0 {
-        v.a
-    } else if k == 1 {
-        v.b
-    } else if k == 2 {
-        v.c
-    } else if k == 3 {
-        v.d
-    } else {
-        v.e
-    }
-}
-
-// A score: what its lane holds above 5.
-fn above(x: u16) -> u32
-    requires { ⌜ 5 ≤ x ⌝ }
-    ensures { λ r. ⌜ r ≡ x - 5 ⌝ }
-{
-    (x - 5) as u32
-}
-
-// One strip by itself, walked down row by row.
-fn strip_score(
-    e: &[u8],
-    down: usize,
-    across: usize,
-    from: usize,
-    to: usize,
-    c: usize,
-    k: u16,
-) -> u32
-    requires { ⌜ (from ≤ to) × (to ≤ 4096) × (to * down + (c + 4) * across < length (now e)) × Marks (now e) × (k ≤ 4) ⌝ }
-    ensures { λ r. ⌜ r ≡ score (points down across (now (e .entry))) from to (at c k) ⌝ }
-{
-    let mut v = start(k);
-    let steps = to - from;
-    for t in 0..steps {
-        v = advanced(e, (from + (t + 1)) * down + c * across, across, v);
-    }
-    above(lane(v, k))
-}
 
 fn lanes_at(st: &States, i: usize) -> Lanes
     requires { ⌜ i < 4096 ⌝ }
@@ -183,7 +46,7 @@ fn starts(st: &mut States, m: usize)
     ensures { λ _. ⌜ ((E : ℕ → ℕ → Bool) (from c : ℕ) → Swept E from c m 0 (now (st .exit))) ⌝ }
 {
     for i in 0..m {
-        put(st, i, start(2));
+        put(st, i, lanes::start(2));
     }
 }
 
@@ -195,7 +58,7 @@ fn sweep_row(e: &[u8], stride: usize, from: usize, t: usize, c: usize, m: usize,
 {
     let o = (from + (t + 1)) * stride + c;
     for i in 0..m {
-        let v = advanced(e, o + i, 1, lanes_at(st, i));
+        let v = lanes::advanced(e, o + i, 1, lanes_at(st, i));
         put(st, i, v);
     }
 }
@@ -216,14 +79,15 @@ fn middle_lanes(st: &States, out: &mut [u32])
     ensures { λ _. ⌜ now (out .exit) ≡ tab (length (now (out .entry))) (λ i. getD (now (st .entry)) (8192 + i) 0 - 5) ⌝ }
 {
     for i in 0..out.len() {
-        out[i] = above(st[8192 + i]);
+        out[i] = lanes::above(st[8192 + i]);
     }
 }
 
 // The strips from column c on, one for each entry of `out`, all with target lane 2.
 fn sweep_scores(e: &[u8], stride: usize, from: usize, to: usize, c: usize, out: &mut [u32])
-    requires { ⌜ (from ≤ to) × (to ≤ 4096) × (length (now out) ≤ 4096) × (to * stride + c + length (now out) + 4 ≤ length (now e)) × Marks (now e) ⌝ }
-    ensures { λ _. ⌜ now (out .exit) ≡ tab (length (now (out .entry))) (λ i. score (points stride 1 (now (e .entry))) from to (at (c + i) 2)) ⌝ }
+    requires { ⌜ (from ≤ to) × (to ≤ 4096) × (length (now out) ≤ 4096) × (to * stride + c + length (now out) + 4 ≤ length (now e))
+        × Marks (now e) ⌝ }
+    ensures { λ _. ⌜ now (out .exit) ≡ sweptScores (points stride 1 (now (e .entry))) from to c (length (now (out .entry))) ⌝ }
 {
     let mut st: States = [0; 20480];
     starts(&mut st, out.len());
@@ -247,8 +111,16 @@ fn two_scores(
         × (i + 1 < length (now out)) ⌝ }
     ensures { λ _. ⌜ now (out .exit) ≡ twoScores (points down across (now (e .entry))) from to c k i (now (out .entry)) ⌝ }
 {
-    out[i] = strip_score(e, down, across, from, to, c, k);
-    out[i + 1] = strip_score(e, down, across, from, to, c, k + 1);
+    out[i] = lanes::strip_score(e, down, across, from, to, c, k);
+    out[i + 1] = lanes::strip_score(e, down, across, from, to, c, k + 1);
+}
+
+// How many places are scored over columns c_1 to c_2 (or rows): as many as a score list has entries.
+pub fn place_count(c_1: usize, c_2: usize) -> usize
+    requires { ⌜ (c_1 + 4 ≤ c_2) × (c_2 ≤ 4096) ⌝ }
+    ensures { λ r. ⌜ r ≡ placeCount c_1 c_2 ⌝ }
+{
+    c_2 - c_1
 }
 
 // The first strip's lanes 0 and 1, the last strip's lanes 3 and 4.
@@ -263,19 +135,20 @@ fn border_scores(
     out: &mut [u32],
 )
     requires { ⌜ (from ≤ to) × (to ≤ 4096) × (to * down + c_2 * across < length (now e)) × Marks (now e) × (c_1 + 4 ≤ c_2)
-        × (c_2 - c_1 ≤ length (now out)) ⌝ }
+        × (c_2 ≤ 4096) × (placeCount c_1 c_2 ≤ length (now out)) ⌝ }
     ensures { λ _. ⌜ now (out .exit) ≡ bordered (points down across (now (e .entry))) from to c_1 c_2 (now (out .entry)) ⌝ }
 {
     two_scores(e, down, across, from, to, c_1, 0, 0, out);
-    two_scores(e, down, across, from, to, c_2 - 4, 3, c_2 - c_1 - 2, out);
+    let last = place_count(c_1, c_2) - 2;
+    two_scores(e, down, across, from, to, c_2 - 4, 3, last, out);
 }
 
 // The scores of columns c_1 to c_2 over rows r_1 to r_2; the points lie rows first, `stride` to a row.
 pub fn column_scores(edges: &[u8], stride: usize, b: Bounds, out: &mut [u32])
-    requires { ⌜ Scorable (now edges) stride b × (b .«c_2» - b .«c_1» ≤ length (now out)) ⌝ }
-    ensures { λ _. ⌜ now (out .exit) ≡ columnScores (points stride 1 (now (edges .entry))) b ++ drop (b .«c_2» - b .«c_1») (now (out .entry)) ⌝ }
+    requires { ⌜ Scorable (now edges) stride b × (placeCount (b .«c_1») (b .«c_2») ≤ length (now out)) ⌝ }
+    ensures { λ _. ⌜ AtFront (columnScores (points stride 1 (now (edges .entry))) b) (now (out .entry)) (now (out .exit)) ⌝ }
 {
-    let last = b.c_2 - b.c_1 - 2;
+    let last = place_count(b.c_1, b.c_2) - 2;
     sweep_scores(edges, stride, b.r_1, b.r_2, b.c_1, &mut out[2..last]);
     border_scores(edges, stride, 1, b.r_1, b.r_2, b.c_1, b.c_2, out);
 }
@@ -334,7 +207,7 @@ fn band_scores(
 )
     requires { ⌜ (from ≤ to) × (to ≤ 4096) × (length (now out) ≤ 4096) × ((r + length (now out) + 3) * stride + to < length (now e))
         × ((to - from + 1) * (length (now out) + 4) ≤ length (now turned)) × Marks (now e) ⌝ }
-    ensures { λ _. ⌜ now (out .exit) ≡ tab (length (now (out .entry))) (λ i. score (points 1 stride (now (e .entry))) from to (at (r + i) 2)) ⌝ }
+    ensures { λ _. ⌜ now (out .exit) ≡ sweptScores (points 1 stride (now (e .entry))) from to r (length (now (out .entry))) ⌝ }
 {
     let n = to - from + 1;
     let b = out.len() + 4;
@@ -362,7 +235,7 @@ fn banded_scores(
 )
     requires { ⌜ (from ≤ to) × (to ≤ 4096) × (r ≤ 4096) × ((r + length (now out) + 3) * stride + to < length (now e))
         × ((to - from + 1) * (length (now out) + 4) ≤ length (now turned)) × Marks (now e) ⌝ }
-    ensures { λ _. ⌜ now (out .exit) ≡ tab (length (now (out .entry))) (λ i. score (points 1 stride (now (e .entry))) from to (at (r + i) 2)) ⌝ }
+    ensures { λ _. ⌜ now (out .exit) ≡ sweptScores (points 1 stride (now (e .entry))) from to r (length (now (out .entry))) ⌝ }
 {
     let mut i = 0;
     while i < out.len() {
@@ -374,11 +247,11 @@ fn banded_scores(
 
 // The scores of rows r_1 to r_2 over columns c_1 to c_2: the columns of the flipped picture. `turned` is scratch.
 pub fn row_scores(edges: &[u8], stride: usize, b: Bounds, turned: &mut [u8], out: &mut [u32])
-    requires { ⌜ Scorable (now edges) stride b × ((b .«c_2» - b .«c_1» + 1) * (b .«r_2» - b .«r_1») ≤ length (now turned))
-        × (b .«r_2» - b .«r_1» ≤ length (now out)) ⌝ }
-    ensures { λ _. ⌜ now (out .exit) ≡ rowScores (points stride 1 (now (edges .entry))) b ++ drop (b .«r_2» - b .«r_1») (now (out .entry)) ⌝ }
+    requires { ⌜ Scorable (now edges) stride b × ((b .«c_2» - b .«c_1» + 1) * placeCount (b .«r_1») (b .«r_2») ≤ length (now turned))
+        × (placeCount (b .«r_1») (b .«r_2») ≤ length (now out)) ⌝ }
+    ensures { λ _. ⌜ AtFront (rowScores (points stride 1 (now (edges .entry))) b) (now (out .entry)) (now (out .exit)) ⌝ }
 {
-    let last = b.r_2 - b.r_1 - 2;
+    let last = place_count(b.r_1, b.r_2) - 2;
     banded_scores(
         edges,
         stride,

@@ -1,29 +1,43 @@
--- `strips::banded_scores` meets its contract. The invariant: the first i scores are written. The strips left fall.
+-- `strips::banded_scores` meets its contract. The invariant: the first i scores stand at the front. The strips left fall.
 use Prim.Native.Nat.{_+_, _-_, _≤_}
 use mathlib.Core.Path.{_≡_, refl, _∙_}
 use native.Mathlib.Nat.{add-assoc}
 use native.Mathlib.Omega.{arith}
+use denote.Ref.{now}
 use borrow.Rule.Slice.PartMut.{midOf, mid-len}
 use lib.ListN.{length}
-use Rattle.lists.specs.Fill.{Filled}
+use Rattle.lists.specs.Front.{AtFront}
 use Rattle.lists.specs.Picture.{points}
-use Rattle.lists.proofs.Fill.{filled-none, filled-all}
-use Rattle.lists.proofs.Part.{filled-whole}
-use Rattle.strips.specs.Strip.{at, score}
-use Rattle.strips.proofs.Bands.{band-in, scratch-in}
+use Rattle.lists.proofs.Fill.{length-tabFrom}
+use Rattle.lists.proofs.Front.{front-none, front-all}
+use Rattle.strips.specs.States.{sweptScores}
+use Rattle.strips.proofs.Bands.{band-in, scratch-in, front-band}
 use borrow.Author.Needs.{needs}
 use Rattle.strips.proofs.banded_scores.Statement.{statement}
 use Rattle.strips.proofs.banded_scores.Tie as tie
 
 abbrev Inv-loop : tie.InvT-loop
 Inv-loop e stride from to r turned₀ out₀ i₀ turned out i =
-    (i ≤ length out₀) × (length turned ≡ length turned₀) × Filled (λ j. score (points 1 stride e) from to (at (r + j) 2)) i out₀ out
+    (i ≤ length out₀) × (length turned ≡ length turned₀) × AtFront (sweptScores (points 1 stride e) from to r i) out₀ out
 
 abbrev μ-loop : tie.MeasureT-loop
 μ-loop e stride from to r turned₀ out₀ i₀ turned out i = length out₀ - i
 
+-- the places that the others follow
+abbrev at-start : tie.At-loop Inv-loop μ-loop → tie.Start Inv-loop μ-loop
+at-start c = c .before .before .before .before
+
+abbrev at-band : tie.After-band-scores-arg2 Inv-loop μ-loop → tie.After-shorter Inv-loop μ-loop
+at-band c = c .before .before
+
+abbrev at-loop : tie.After-band-scores-arg2 Inv-loop μ-loop → tie.At-loop Inv-loop μ-loop
+at-loop c = at-band c .before .before
+
+abbrev at-scores : tie.After-slice-known4 Inv-loop μ-loop → tie.After-band-scores Inv-loop μ-loop
+at-scores c = c .before .before .before .before
+
 loop-holds : tie.Need-loop-holds Inv-loop μ-loop
-loop-holds c = (omega arith, refl, filled-none)
+loop-holds c = (omega arith, refl, front-none)
 
 sub-shorter : tie.Need-sub-shorter Inv-loop μ-loop
 sub-shorter c = search needs
@@ -49,19 +63,20 @@ part-band-scores-start c = search needs
 part-band-scores-end : tie.Need-part-band-scores-end Inv-loop μ-loop
 part-band-scores-end c = search needs
 
+-- the band is lent whole
 part : (c : tie.After-band-scores-arg2 Inv-loop μ-loop) →
-    let l = c .before .before .before .before .loop in
-    let m = c .before .before .shorter .result in
+    let l = at-loop c .loop in
+    let m = at-band c .shorter .result in
     length (midOf (l .i) (l .i + m - l .i) (l .out)) ≡ m
 part c =
-    let l = c .before .before .before .before .loop in
-    mid-len (l .i) (l .i + c .before .before .shorter .result) (l .out) (omega (arith, l .inv .2 .len)) ∙ omega arith
+    let l = at-loop c .loop in
+    mid-len (l .i) (l .i + at-band c .shorter .result) (l .out) (omega (arith, l .inv .2 .len)) ∙ omega arith
 
 band-scores-requires : tie.Need-band-scores-requires Inv-loop μ-loop
 band-scores-requires c κs =
-    let p = c .before .before .before .before .before .before .before .before .pre in
+    let p = at-start (at-loop c) .pre in
     let e = part c in
-    let l = c .before .before .before .before .loop in (
+    let l = at-loop c .loop in (
       p .0,
       p .1,
       rw e (omega arith),
@@ -75,12 +90,12 @@ loop-less c = search needs
 
 loop-again : tie.Need-loop-again Inv-loop μ-loop
 loop-again c =
-    let lent = c .before .before .before .before .before in
-    let l = lent .before .before .before .before .loop in
-    let m = lent .before .before .shorter .result in (
+    let lent = at-scores c .before in
+    let l = at-loop lent .loop in
+    let m = at-band lent .shorter .result in (
       omega arith,
       search needs,
-      filled-whole (l .i + m - l .i) (l .inv .2) (part lent) (c .before .before .before .before .band-scores .ensures) (λ j. rw add-assoc),
+      front-band _ _ (l .i) m (l .i + m - l .i) (l .inv .2) (part lent) (omega arith) (at-scores c .band-scores .ensures) (λ j. rw add-assoc),
     )
 
 same-length : tie.Need-same-length Inv-loop μ-loop
@@ -90,7 +105,10 @@ same-length-2 : tie.Need-same-length-2 Inv-loop μ-loop
 same-length-2 c = search needs
 
 returns : tie.Need-returns Inv-loop μ-loop
-returns c = filled-all (c .before .loop .inv .2) (omega arith)
+returns c =
+    let l = c .before .loop in
+    let e : l .i ≡ length (now (at-start (c .before) .args .out)) = omega arith in
+    front-all (rw e at (l .inv .2)) (length-tabFrom 0 _ _)
 
 pub banded-scores-spec : {M : Type 1} → statement M
 banded-scores-spec =

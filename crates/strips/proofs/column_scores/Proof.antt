@@ -1,27 +1,55 @@
 -- `strips::column_scores` meets its contract: the places with target lane 2 as a part, the border places around it.
+use Prim.Native.Nat.{_+_, _-_, _≤_}
+use mathlib.Core.Path.{_≡_}
 use native.Mathlib.Omega.{arith}
-use Rattle.strips.proofs.Scores.{joined}
+use denote.Ref.{now}
+use lib.ListN.{length}
+use Rattle.strips.specs.Strip.{placeCount}
+use Rattle.strips.proofs.Scores.{count-least, count-most, joined}
 use borrow.Author.Needs.{needs}
 use Rattle.strips.proofs.column_scores.Statement.{statement}
 use Rattle.strips.proofs.column_scores.Tie as tie
 
-sub-last : tie.Need-sub-last
-sub-last c = search needs
+-- the places that the others follow
+abbrev at-start : tie.After-place-count → tie.Start
+at-start c = c .before .before .before
 
-sub-last-2 : tie.Need-sub-last-2
-sub-last-2 c = search needs
+abbrev at-count : tie.After-sweep-scores → tie.After-place-count
+at-count c = c .before .before
+
+abbrev at-swept : tie.After-slice-known3 → tie.After-sweep-scores
+at-swept c = c .before .before .before .before .before .before
+
+-- how many places there are
+counted : (c : tie.After-place-count) → let b = at-start c .args .b in c .place-count .result ≡ placeCount (b .«c_1») (b .«c_2»)
+counted c = c .place-count .ensures
+
+least : (c : tie.After-place-count) → 4 ≤ c .place-count .result
+least c = rw (counted c) (count-least _ _)
+
+most : (c : tie.After-place-count) → let b = at-start c .args .b in c .place-count .result ≤ b .«c_2» - b .«c_1» + 1
+most c = let b = at-start c .args .b in omega (arith, counted c, count-most (b .«c_1») (b .«c_2») (at-start c .pre .0 .columns))
+
+fits : (c : tie.After-place-count) → c .place-count .result ≤ length (now (at-start c .args .out))
+fits c = omega (arith, counted c, at-start c .pre .1)
+
+place-count-requires : tie.Need-place-count-requires
+place-count-requires c κs = search needs
+
+sub-last : tie.Need-sub-last
+sub-last c = omega (arith, least c)
 
 sub-sweep-scores : tie.Need-sub-sweep-scores
-sub-sweep-scores c = search needs
+sub-sweep-scores c = search (needs, least c)
 
 part-sweep-scores-start : tie.Need-part-sweep-scores-start
-part-sweep-scores-start c = search needs
+part-sweep-scores-start c = search (needs, least c)
 
 part-sweep-scores-end : tie.Need-part-sweep-scores-end
-part-sweep-scores-end c = search needs
+part-sweep-scores-end c = search (needs, fits c)
 
 sweep-scores-requires : tie.Need-sweep-scores-requires
-sweep-scores-requires c κs = search needs
+sweep-scores-requires c κs = search (needs, least (c .before), most (c .before), fits (c .before))
 
 border-scores-requires : tie.Need-border-scores-requires
 border-scores-requires c κs = search needs
@@ -31,16 +59,16 @@ same-length c = search needs
 
 returns : tie.Need-returns
 returns c =
-    joined _ _ _ _ _ _ _ _ (omega arith) (omega arith)
-    (c .before .before .before .before .before .before .sweep-scores .ensures)
+    let swept = at-swept c in
+    joined _ _ _ _ _ _ _ _ _ (counted (at-count swept)) (fits (at-count swept)) (swept .sweep-scores .ensures)
     (c .before .before .border-scores .ensures)
 
 pub column-scores-spec : {M : Type 1} → statement M
 column-scores-spec =
     tie.close
     (tie.spec
+    place-count-requires
     sub-last
-    sub-last-2
     sub-sweep-scores
     part-sweep-scores-start
     part-sweep-scores-end

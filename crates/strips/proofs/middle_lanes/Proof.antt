@@ -2,22 +2,25 @@
 use Prim.Native.Nat.{_+_, _-_, _≤_}
 use mathlib.Core.Path.{_≡_, refl}
 use native.Mathlib.Omega.{arith}
+use denote.Ref.{now}
 use lib.ListN.{length, getD}
-use Rattle.lists.specs.Fill.{Filled}
-use Rattle.lists.proofs.Fill.{filled-none, filled-more, filled-all}
+use Rattle.lists.specs.Front.{AtFront}
+use Rattle.lists.specs.Tab.{tab}
+use Rattle.lists.proofs.Fill.{length-tabFrom}
+use Rattle.lists.proofs.Front.{front-none, front-more, front-all}
 use borrow.Author.Needs.{needs}
 use Rattle.strips.proofs.middle_lanes.Statement.{statement}
 use Rattle.strips.proofs.middle_lanes.Tie as tie
 
 abbrev Inv-loop : tie.InvT-loop
 Inv-loop st out₀ i₀ i-end out i =
-    (i ≤ length out₀) × (i-end ≡ length out₀) × Filled (λ j. getD st (8192 + j) 0 - 5) i out₀ out
+    (i ≤ length out₀) × (i-end ≡ length out₀) × AtFront (tab i (λ j. getD st (8192 + j) 0 - 5)) out₀ out
 
 abbrev μ-loop : tie.MeasureT-loop
 μ-loop st out₀ i₀ i-end out i = length out₀ - i
 
 loop-holds : tie.Need-loop-holds Inv-loop μ-loop
-loop-holds c = (omega arith, refl, filled-none)
+loop-holds c = (omega arith, refl, front-none)
 
 add-above : tie.Need-add-above Inv-loop μ-loop
 add-above c = search needs
@@ -44,13 +47,16 @@ loop-less : tie.Need-loop-less Inv-loop μ-loop
 loop-less c = search needs
 
 loop-again : tie.Need-loop-again Inv-loop μ-loop
-loop-again c = (omega arith, refl, filled-more (c .before .before .before .loop .inv .2) (omega arith) (c .above .ensures))
+loop-again c = (omega arith, refl, front-more _ _ (c .before .before .before .loop .inv .2) (omega arith) (c .above .ensures))
 
 same-length : tie.Need-same-length Inv-loop μ-loop
 same-length c = search needs
 
 returns : tie.Need-returns Inv-loop μ-loop
-returns c = filled-all (c .before .loop .inv .2) (omega arith)
+returns c =
+    let l = c .before .loop in
+    let e : l .i ≡ length (now (c .before .before .before .args .out)) = omega arith in
+    front-all (rw e at (l .inv .2)) (length-tabFrom 0 _ _)
 
 pub middle-lanes-spec : {M : Type 1} → statement M
 middle-lanes-spec =

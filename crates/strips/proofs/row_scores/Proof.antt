@@ -1,50 +1,84 @@
 -- `strips::row_scores` meets its contract: as `column_scores`, on the flipped picture.
-use Prim.Native.Nat.{_+_, _-_}
+use Prim.Native.Nat.{_+_, _-_, _≤_}
 use mathlib.Core.Path.{_≡_}
 use native.Mathlib.Omega.{arith}
 use denote.Ref.{now}
 use borrow.Rule.Slice.PartMut.{midOf, mid-len}
 use lib.ListN.{length}
 use Rattle.lists.proofs.Picture.{flip-points}
+use Rattle.strips.specs.Strip.{placeCount}
 use Rattle.strips.proofs.Bands.{strips-in}
-use Rattle.strips.proofs.Scores.{joined}
+use Rattle.strips.proofs.Scores.{count-least, count-most, joined}
 use borrow.Author.Needs.{needs}
 use Rattle.strips.proofs.row_scores.Statement.{statement}
 use Rattle.strips.proofs.row_scores.Tie as tie
 
-sub-last : tie.Need-sub-last
-sub-last c = search needs
+-- the places that the others follow
+abbrev at-start : tie.After-place-count → tie.Start
+at-start c = c .before .before .before .before
 
-sub-last-2 : tie.Need-sub-last-2
-sub-last-2 c = search needs
+abbrev at-count : tie.After-banded-scores → tie.After-place-count
+at-count c = c .before .before .before
+
+abbrev at-banded : tie.After-border-scores-arg → tie.After-banded-scores
+at-banded c = c .before .before .before .before .before
+
+abbrev at-end : tie.After-slice-known5 → tie.After-border-scores
+at-end c = c .before .before
+
+-- how many places there are
+counted : (c : tie.After-place-count) → let b = at-start c .args .b in c .place-count .result ≡ placeCount (b .«r_1») (b .«r_2»)
+counted c = c .place-count .ensures
+
+least : (c : tie.After-place-count) → 4 ≤ c .place-count .result
+least c = rw (counted c) (count-least _ _)
+
+most : (c : tie.After-place-count) → let b = at-start c .args .b in c .place-count .result ≤ b .«r_2» - b .«r_1» + 1
+most c = let b = at-start c .args .b in omega (arith, counted c, count-most (b .«r_1») (b .«r_2») (at-start c .pre .0 .rows))
+
+fits : (c : tie.After-place-count) → c .place-count .result ≤ length (now (at-start c .args .out))
+fits c = omega (arith, counted c, at-start c .pre .2)
+
+-- all but the border places are lent
+part : (c : tie.After-place-count) →
+    length (midOf 2 (c .place-count .result - 2 - 2) (now (at-start c .args .out))) + 4 ≡ c .place-count .result
+part c =
+    let n = c .place-count .result in
+    let e = mid-len 2 (n - 2) (now (at-start c .args .out)) (omega (arith, fits c)) in
+    omega (arith, e, least c)
+
+place-count-requires : tie.Need-place-count-requires
+place-count-requires c κs = search needs
+
+sub-last : tie.Need-sub-last
+sub-last c = omega (arith, least c)
 
 sub-banded-scores : tie.Need-sub-banded-scores
-sub-banded-scores c = search needs
+sub-banded-scores c = search (needs, least (c .before))
 
 part-banded-scores-start : tie.Need-part-banded-scores-start
-part-banded-scores-start c = search needs
+part-banded-scores-start c = search (needs, least (c .before))
 
 part-banded-scores-end : tie.Need-part-banded-scores-end
-part-banded-scores-end c = search needs
-
-part : (c : tie.After-banded-scores-arg2) →
-    let a = c .before .before .before .before .before .before .args in
-    length (midOf 2 (a .b .«r_2» - a .b .«r_1» - 2 - 2) (now (a .out))) + 4 ≡ a .b .«r_2» - a .b .«r_1»
-part c =
-    let a = c .before .before .before .before .before .before .args in
-    let e = mid-len 2 (a .b .«r_2» - a .b .«r_1» - 2) (now (a .out)) (omega arith) in
-    omega (arith, e)
+part-banded-scores-end c = search (needs, fits (c .before))
 
 banded-scores-requires : tie.Need-banded-scores-requires
 banded-scores-requires c κs =
-    let p = c .before .before .before .before .before .before .pre in
-    let e = part c in
-    (omega arith, omega arith, omega arith, strips-in _ _ _ _ _ _ (omega arith) (p .0 .inside) (p .0 .whole), rw e (p .1), p .0 .marks)
+    let n = c .before .before in
+    let p = at-start n .pre in
+    let e = part n in (
+      omega arith,
+      omega arith,
+      omega arith,
+      strips-in _ _ _ _ _ _ (omega (arith, e, most n)) (p .0 .inside) (p .0 .whole),
+      rw (e, counted n) (p .1),
+      p .0 .marks,
+    )
 
 border-scores-requires : tie.Need-border-scores-requires
 border-scores-requires c κs =
-    let p = c .before .before .before .before .before .before .before .before .before .before .before .before .pre in
-    (omega arith, omega arith, omega arith, p .0 .marks, p .0 .rows, search (needs, p))
+    let p = at-start (at-count (at-banded c)) .pre in
+    (omega arith, omega arith, omega arith, p .0 .marks, p .0 .rows, omega arith, search (needs, p))
 
 same-length : tie.Need-same-length
 same-length c = search needs
@@ -54,18 +88,18 @@ same-length-2 c = search needs
 
 returns : tie.Need-returns
 returns c =
-    let a = c .before .before .before .before .before .before .before .before .before .before .before .before .before .before .before .args in
+    let banded = at-banded (at-end c .before) in
+    let n = at-count banded in
+    let a = at-start n .args in
     rw (flip-points (a .stride) 1 (now (a .edges)))
-    (joined _ _ _ _ _ _ _ _ (omega arith) (omega arith)
-    (c .before .before .before .before .before .before .before .before .banded-scores .ensures)
-    (c .before .before .border-scores .ensures))
+    (joined _ _ _ _ _ _ _ _ _ (counted n) (fits n) (banded .banded-scores .ensures) (at-end c .border-scores .ensures))
 
 pub row-scores-spec : {M : Type 1} → statement M
 row-scores-spec =
     tie.close
     (tie.spec
+    place-count-requires
     sub-last
-    sub-last-2
     sub-banded-scores
     part-banded-scores-start
     part-banded-scores-end

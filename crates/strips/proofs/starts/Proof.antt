@@ -2,15 +2,15 @@
 use Prim.Native.Nat.{_-_, _≤_}
 use native.Mathlib.Nat.{not-suc-le-zero}
 use native.Mathlib.Omega.{arith}
-use Rattle.strips.specs.Walk.{apart}
-use Rattle.strips.specs.States.{Holds}
+use Rattle.lanes.specs.Walk.{apart}
+use Rattle.lanes.specs.States.{LanesHold}
 use Rattle.strips.proofs.Stores.{Partly, partly-more}
 use borrow.Author.Needs.{needs}
 use Rattle.strips.proofs.starts.Statement.{statement}
 use Rattle.strips.proofs.starts.Tie as tie
 
 abbrev Inv-loop : tie.InvT-loop
-Inv-loop st₀ m i₀ st i = (i ≤ m) × Partly (λ j v. Unit) (λ j v. Holds 5 (λ k. apart k 2) v) m i st
+Inv-loop st₀ m i₀ st i = (i ≤ m) × Partly (λ j v. Unit) (λ j v. LanesHold 5 (λ k. apart k 2) v) m i st
 
 abbrev μ-loop : tie.MeasureT-loop
 μ-loop st₀ m i₀ st i = m - i

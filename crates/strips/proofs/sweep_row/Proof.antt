@@ -5,9 +5,9 @@ use native.Mathlib.Nat.{not-suc-le-zero}
 use native.Mathlib.Omega.{arith}
 use denote.Ref.{now}
 use Rattle.lists.specs.Picture.{points}
-use Rattle.strips.specs.Strip.{at}
-use Rattle.strips.specs.States.{Walked}
-use Rattle.strips.proofs.States.{row-more}
+use Rattle.lanes.specs.Score.{at}
+use Rattle.lanes.specs.States.{Walked}
+use Rattle.lanes.proofs.States.{row-more}
 use Rattle.strips.proofs.Stores.{Partly, partly-more}
 use borrow.Author.Needs.{needs}
 use Rattle.strips.proofs.sweep_row.Statement.{statement}

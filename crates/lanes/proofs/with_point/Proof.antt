@@ -1,11 +1,11 @@
--- `strips::with_point` meets its contract: the point lies in the picture, and its byte is 0 or 1.
+-- `lanes::with_point` meets its contract: the point lies in the picture, and its byte is 0 or 1.
 use Prim.Native.Nat.{_+_, _*_, _<_, _≤_}
 use native.Mathlib.Omega.{arith}
 use denote.Ref.{now}
 use lib.ListN.{length, getD}
-use Rattle.strips.proofs.States.{lane-in, plus-point}
-use Rattle.strips.proofs.with_point.Statement.{statement}
-use Rattle.strips.proofs.with_point.Tie as tie
+use Rattle.lanes.proofs.States.{lane-in, plus-point}
+use Rattle.lanes.proofs.with_point.Statement.{statement}
+use Rattle.lanes.proofs.with_point.Tie as tie
 
 place : (c : tie.Start) → c .args .o + c .args .j * c .args .across < length (now (c .args .e))
 place c = lane-in _ _ _ _ (c .pre .0) (c .pre .2)

@@ -1,8 +1,8 @@
--- `strips::lane` meets its contract, lane by lane.
+-- `lanes::lane` meets its contract, lane by lane.
 use mathlib.Core.Path.{_≡_}
 use native.Mathlib.Omega.{arith}
-use Rattle.strips.proofs.lane.Statement.{statement}
-use Rattle.strips.proofs.lane.Tie as tie
+use Rattle.lanes.proofs.lane.Statement.{statement}
+use Rattle.lanes.proofs.lane.Tie as tie
 
 returns : tie.Need-returns
 returns c n cost h = rw (c .if1 .taken) (h .a)

@@ -1,4 +1,4 @@
--- The states of a strip: a row's points added, a sideways step, and both together as one row more of `least`. Assumes nothing.
+-- The states of a strip: a row's points added, a sideways step, and both together as one row more of `leastCost`. Assumes nothing.
 use Prim.Native.Nat.{ℕ, zero, suc, _+_, _-_, _*_, _≤_, _<_, min, max}
 use mathlib.Core.Path.{_≡_, subst, fun-ext}
 use mathlib.Core.Bool.{Bool, not}
@@ -10,10 +10,10 @@ use native.Mathlib.Omega.{arith}
 use lib.Dec.{eqb}
 use Rattle.lists.specs.Picture.{bit, points}
 use Rattle.lists.proofs.Picture.{bit-le}
-use Rattle.strips.specs.declared.Lanes.{Lanes}
-use Rattle.strips.specs.Strip.{Place, at, onward, least, onStrip, score}
-use Rattle.strips.specs.States.{Holds, Below, unset, Advanced, Walked}
-use Rattle.strips.proofs.Walks.{least-stays}
+use Rattle.lanes.specs.declared.Lanes.{Lanes}
+use Rattle.lanes.specs.Score.{Place, at, onward, leastCost, onStrip, score}
+use Rattle.lanes.specs.States.{LanesHold, Below, unset, Advanced, Walked}
+use Rattle.lanes.proofs.Walks.{least-cost-stays}
 
 -- the point of lane j is in the picture if that of lane 4 is
 pub lane-in : (o across j n : ℕ) → o + 4 * across < n → j ≤ 4 → o + j * across < n
@@ -34,8 +34,8 @@ best-of n own left right c l r a b d p q = omega arith
 border-of : (n own side c s : ℕ) → own + c ≡ n → side + s ≡ n → s < n → max own (max side side - 1) + min c (s + 1) ≡ n
 border-of n own side c s a b p = omega arith
 
-pub sideways-holds : (v : Lanes) (n : ℕ) (cost : ℕ → ℕ) → Below n cost → Holds n cost v →
-    Holds n (onward cost)
+pub sideways-holds : (v : Lanes) (n : ℕ) (cost : ℕ → ℕ) → Below n cost → LanesHold n cost v →
+    LanesHold n (onward cost)
     record {
       a = max (v .a) (max (v .b) (v .b) - 1);
       b = max (v .b) (max (v .a) (v .c) - 1);
@@ -58,10 +58,10 @@ below-more e o across n cost l j h = omega (arith, l j h, bit-le (not (eqb (getD
 
 -- what the target lane holds after the last step is 5 more than the score
 pub lane-score : (E : ℕ → ℕ → Bool) (from to : ℕ) (p : Place) (x : ℕ) →
-    x + least (onStrip E from p) (p .lane) (to - from) (p .lane) ≡ to - from + 5 → (5 ≤ x) × (x - 5 ≡ score E from to p)
+    x + leastCost (onStrip E from p) (p .lane) (to - from) (p .lane) ≡ to - from + 5 → (5 ≤ x) × (x - 5 ≡ score E from to p)
 unfolding score
 lane-score E from to p x h =
-    let l = least-stays (onStrip E from p) (p .lane) (to - from) (p .lane) in
+    let l = least-cost-stays (onStrip E from p) (p .lane) (to - from) (p .lane) in
     (omega (arith, l), omega (arith, l))
 
 -- the row after t steps ends within the picture if the last row does
@@ -70,10 +70,6 @@ pub row-in : (from to t down across c n : ℕ) → t < to - from → to * down +
 row-in from to t down across c n l h =
     let q : from + (t + 1) ≤ to = omega arith in
     omega (arith, mul-le-mul-right down q, add-mul c 4 across)
-
--- a strip before the last column ends within the picture if that column does
-pub strip-in : (o across c c₂ n : ℕ) → c + 4 ≤ c₂ → o + c₂ * across < n → o + (c + 4) * across < n
-strip-in o across c c₂ n l h = omega (arith, mul-le-mul-right across l)
 
 -- one strip of a picture of bytes
 module _ (e : List ℕ) (down across from c k : ℕ) where
@@ -91,8 +87,8 @@ module _ (e : List ℕ) (down across from c k : ℕ) where
   pub row-more : (t o : ℕ) (v w : Lanes) → k ≤ 4 → o ≡ (from + (t + 1)) * down + c * across → Walked (points down across e) from (at c k) t v →
       Advanced e o across v w → Walked (points down across e) from (at c k) (t + 1) w
   row-more t o v w l q h a =
-      let low : Below (t + 5) (least strip k t) = λ j b. omega (arith, least-stays strip k t j) in
+      let low : Below (t + 5) (leastCost strip k t) = λ j b. omega (arith, least-cost-stays strip k t j) in
       let i : _≡_ {A = ℕ → ℕ} (λ j. unset e (o + j * across)) (λ j. bit (not (strip (suc t) j))) = fun-ext (λ j. point-at t o j q) in
       let n : t + 5 + 1 ≡ suc t + 5 = omega arith in
       rw (add-one t)
-      (subst (λ (u : ℕ → ℕ). Holds (suc t + 5) (onward (λ j. least strip k t j + u j)) w) i (rw n at (a (t + 5) (least strip k t) low h)))
+      (subst (λ (u : ℕ → ℕ). LanesHold (suc t + 5) (onward (λ j. leastCost strip k t j + u j)) w) i (rw n at (a (t + 5) (leastCost strip k t) low h)))

@@ -1,8 +1,8 @@
--- `strips::sideways` meets its contract, lane by lane.
-use Rattle.strips.proofs.States.{sideways-holds}
+-- `lanes::sideways` meets its contract, lane by lane.
+use Rattle.lanes.proofs.States.{sideways-holds}
 use borrow.Author.Needs.{needs}
-use Rattle.strips.proofs.sideways.Statement.{statement}
-use Rattle.strips.proofs.sideways.Tie as tie
+use Rattle.lanes.proofs.sideways.Statement.{statement}
+use Rattle.lanes.proofs.sideways.Tie as tie
 
 best-requires : tie.Need-best-requires
 best-requires c κs = search needs

@@ -1,4 +1,4 @@
--- `least` is the least cost of a walk: no walk to a lane costs less, and one costs just that. So a place's score is the best
+-- `leastCost` is the least cost of a walk: no walk to a lane costs less, and one costs just that. So a place's score is the best
 -- score of a walk that ends at it (01, "Path scores"). Assumes nothing.
 use Prim.Native.Nat.{ℕ, zero, suc, _+_, _-_, _≤_, _<_, min}
 use mathlib.Core.Path.{_≡_, refl, ap, _∙_}
@@ -9,8 +9,8 @@ use borrow.Author.Tests.{lt-ltb, ltb-true, ltb-false, eqb-true, eqb-false, le-le
 use lib.Dec.{ltb, leb, eqb}
 use Rattle.lists.specs.Picture.{bit}
 use Rattle.lists.proofs.Picture.{bit-le}
-use Rattle.strips.specs.Walk.{apart, Walk, ends, costOf, cost, ScoresAtMost, Scores}
-use Rattle.strips.specs.Strip.{Place, onward, least, onStrip, score}
+use Rattle.lanes.specs.Walk.{apart, Walk, ends, costOf, cost, ScoresAtMost, Scores}
+use Rattle.lanes.specs.Score.{Place, onward, leastCost, onStrip, score}
 
 -- lanes that differ by at most 1
 beside : (p j : ℕ) → apart p j ≤ 1 → (p ≡ j) ⊎ ((suc p ≡ j) ⊎ (p ≡ suc j))
@@ -89,11 +89,11 @@ onward-same p q h (suc j) l = rw (h (suc j) l, h j (omega arith)) (ap (λ (r : �
     go false e = rw e
 
 -- two strips with the same points from row 1 to row n
-pub least-same : (set other : ℕ → ℕ → Bool) (k n : ℕ) → ((t j : ℕ) → t ≤ n → j ≤ 4 → set t j ≡ other t j) →
-    (j : ℕ) → j ≤ 4 → least set k n j ≡ least other k n j
-least-same set other k zero h j l = refl
-least-same set other k (suc n) h j l =
-    onward-same _ _ (λ i m. rw (least-same set other k n (λ t f a b. h t f (omega arith) b) i m, h (suc n) i (omega arith) m)) j l
+pub least-cost-same : (set other : ℕ → ℕ → Bool) (k n : ℕ) → ((t j : ℕ) → t ≤ n → j ≤ 4 → set t j ≡ other t j) →
+    (j : ℕ) → j ≤ 4 → leastCost set k n j ≡ leastCost other k n j
+least-cost-same set other k zero h j l = refl
+least-cost-same set other k (suc n) h j l =
+    onward-same _ _ (λ i m. rw (least-cost-same set other k n (λ t f a b. h t f (omega arith) b) i m, h (suc n) i (omega arith) m)) j l
 
 -- a walk, and one step more to lane j
 module _ {n : ℕ} (w : Walk n) (j : ℕ) where
@@ -127,20 +127,20 @@ module _ {n : ℕ} (w : Walk n) (j : ℕ) where
   walk-on l h = record { lane = longer; on-strip = λ t q. longer-on l t; near = longer-near h }
 
 module _ (set : ℕ → ℕ → Bool) (k : ℕ) where
-  least-most : (n : ℕ) (lane : ℕ → ℕ) →
-      ((t : ℕ) → t ≤ n → lane t ≤ 4) → ((t : ℕ) → t < n → apart (lane t) (lane (suc t)) ≤ 1) → least set k n (lane n) ≤ costOf set k lane n
-  least-most zero lane on near = omega arith
-  least-most (suc n) lane on near =
-      let paid : ℕ → ℕ = λ i. least set k n i + bit (not (set (suc n) i)) in
-      let so = least-most n lane (λ t h. on t (omega arith)) (λ t h. near t (omega arith)) in
+  least-cost-most : (n : ℕ) (lane : ℕ → ℕ) →
+      ((t : ℕ) → t ≤ n → lane t ≤ 4) → ((t : ℕ) → t < n → apart (lane t) (lane (suc t)) ≤ 1) → leastCost set k n (lane n) ≤ costOf set k lane n
+  least-cost-most zero lane on near = omega arith
+  least-cost-most (suc n) lane on near =
+      let paid : ℕ → ℕ = λ i. leastCost set k n i + bit (not (set (suc n) i)) in
+      let so = least-cost-most n lane (λ t h. on t (omega arith)) (λ t h. near t (omega arith)) in
       omega (arith, so, onward-most paid (lane n) (lane (suc n)) (on n (omega arith)) (near n (omega arith)))
 
   -- a walk may stay in its lane
-  pub least-stays : (n j : ℕ) → least set k n j ≤ n + apart j k
-  least-stays zero j = omega arith
-  least-stays (suc n) j =
-      let paid : ℕ → ℕ = λ i. least set k n i + bit (not (set (suc n) i)) in
-      omega (arith, stay paid j, least-stays n j, bit-le (not (set (suc n) j)))
+  pub least-cost-stays : (n j : ℕ) → leastCost set k n j ≤ n + apart j k
+  least-cost-stays zero j = omega arith
+  least-cost-stays (suc n) j =
+      let paid : ℕ → ℕ = λ i. leastCost set k n i + bit (not (set (suc n) i)) in
+      omega (arith, stay paid j, least-cost-stays n j, bit-le (not (set (suc n) j)))
 
   costOf-same : (n : ℕ) (f g : ℕ → ℕ) → ((t : ℕ) → t ≤ n → f t ≡ g t) → costOf set k f n ≡ costOf set k g n
   costOf-same zero f g h = rw (h 0 (omega arith))
@@ -148,19 +148,19 @@ module _ (set : ℕ → ℕ → Bool) (k : ℕ) where
       rw (costOf-same n f g (λ t l. h t (omega arith)), h n (omega arith), h (suc n) (omega arith))
 
   -- a walk of least cost to lane p is one to lane j, where j is reached from p at the least cost
-  attained-on : {n : ℕ} (u : Walk n) (p j : ℕ) → ends u ≡ p → cost set k u ≡ least set k n p → j ≤ 4 → apart p j ≤ 1 →
-      least set k (suc n) j ≡ least set k n p + bit (not (set (suc n) p)) + apart p j →
-      (w : Walk (suc n)) × (ends w ≡ j) × (cost set k w ≡ least set k (suc n) j)
+  attained-on : {n : ℕ} (u : Walk n) (p j : ℕ) → ends u ≡ p → cost set k u ≡ leastCost set k n p → j ≤ 4 → apart p j ≤ 1 →
+      leastCost set k (suc n) j ≡ leastCost set k n p + bit (not (set (suc n) p)) + apart p j →
+      (w : Walk (suc n)) × (ends w ≡ j) × (cost set k w ≡ leastCost set k (suc n) j)
   attained-on {n} u p j e c h near next =
-      let old : costOf set k (longer u j) n ≡ least set k n p = costOf-same n (longer u j) (u .lane) (longer-old u j) ∙ c in
+      let old : costOf set k (longer u j) n ≡ leastCost set k n p = costOf-same n (longer u j) (u .lane) (longer-old u j) ∙ c in
       let at : longer u j n ≡ p = longer-old u j n (omega arith) ∙ e in
       (walk-on u j h (rw e near), longer-new u j, rw (old, at, longer-new u j) (omega (arith, next)))
 
-  least-attained : (n j : ℕ) → j ≤ 4 → (w : Walk n) × (ends w ≡ j) × (cost set k w ≡ least set k n j)
-  least-attained zero j h = (record { lane = λ t. j; on-strip = λ t q. h; near = λ t q. omega arith }, refl, refl)
-  least-attained (suc n) j h =
-      let f = from-lane (λ i. least set k n i + bit (not (set (suc n) i))) j h in
-      let w = least-attained n (f .0) (f .1) in
+  least-cost-attained : (n j : ℕ) → j ≤ 4 → (w : Walk n) × (ends w ≡ j) × (cost set k w ≡ leastCost set k n j)
+  least-cost-attained zero j h = (record { lane = λ t. j; on-strip = λ t q. h; near = λ t q. omega arith }, refl, refl)
+  least-cost-attained (suc n) j h =
+      let f = from-lane (λ i. leastCost set k n i + bit (not (set (suc n) i))) j h in
+      let w = least-cost-attained n (f .0) (f .1) in
       attained-on (w .0) (f .0) j (w .1) (w .2) h (f .2) (f .3)
 
 -- no walk that ends at a place scores better
@@ -168,7 +168,7 @@ pub no-better : (E : ℕ → ℕ → Bool) (from to : ℕ) (p : Place) (w : Walk
     ScoresAtMost (onStrip E from p) (p .lane) w (score E from to p)
 unfolding score
 no-better E from to p w e =
-    let l = least-most (onStrip E from p) (p .lane) (to - from) (w .lane) (w .on-strip) (w .near) in
+    let l = least-cost-most (onStrip E from p) (p .lane) (to - from) (w .lane) (w .on-strip) (w .near) in
     let q = rw e at l in
     omega (arith, q)
 
@@ -177,6 +177,6 @@ pub attained : (E : ℕ → ℕ → Bool) (from to : ℕ) (p : Place) → p .lan
     (w : Walk (to - from)) × (ends w ≡ p .lane) × Scores (onStrip E from p) (p .lane) w (score E from to p)
 unfolding score
 attained E from to p h =
-    let w = least-attained (onStrip E from p) (p .lane) (to - from) (p .lane) h in
-    let l = least-stays (onStrip E from p) (p .lane) (to - from) (p .lane) in
+    let w = least-cost-attained (onStrip E from p) (p .lane) (to - from) (p .lane) h in
+    let l = least-cost-stays (onStrip E from p) (p .lane) (to - from) (p .lane) in
     (w .0, w .1, omega (arith, w .2, l))

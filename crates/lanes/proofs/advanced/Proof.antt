@@ -1,10 +1,10 @@
--- `strips::advanced` meets its contract: a point adds at most 1 to a cost.
-use Rattle.strips.proofs.States.{below-more}
+-- `lanes::advanced` meets its contract: a point adds at most 1 to a cost.
+use Rattle.lanes.proofs.States.{below-more}
 use Prim.Native.Nat.{_+_}
 use denote.Ref.{now}
 use borrow.Author.Needs.{needs}
-use Rattle.strips.proofs.advanced.Statement.{statement}
-use Rattle.strips.proofs.advanced.Tie as tie
+use Rattle.lanes.proofs.advanced.Statement.{statement}
+use Rattle.lanes.proofs.advanced.Tie as tie
 
 with-points-requires : tie.Need-with-points-requires
 with-points-requires c κs = search needs

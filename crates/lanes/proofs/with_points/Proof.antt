@@ -1,7 +1,7 @@
--- `strips::with_points` meets its contract, lane by lane.
+-- `lanes::with_points` meets its contract, lane by lane.
 use borrow.Author.Needs.{needs}
-use Rattle.strips.proofs.with_points.Statement.{statement}
-use Rattle.strips.proofs.with_points.Tie as tie
+use Rattle.lanes.proofs.with_points.Statement.{statement}
+use Rattle.lanes.proofs.with_points.Tie as tie
 
 with-point-requires : tie.Need-with-point-requires
 with-point-requires c κs = search needs

@@ -1,16 +1,16 @@
--- `strips::strip_score` meets its contract. The invariant: each lane holds 5 and the steps so far, less its least cost. The steps left fall.
+-- `lanes::strip_score` meets its contract. The invariant: each lane holds 5 and the steps so far, less its least cost. The steps left fall.
 use Prim.Native.Nat.{_+_, _-_, _*_, _≤_, _<_}
 use mathlib.Core.Path.{_≡_, refl, _∙_}
 use native.Mathlib.Omega.{arith}
 use denote.Ref.{now}
 use lib.ListN.{length}
 use Rattle.lists.specs.Picture.{points}
-use Rattle.strips.specs.Strip.{at, score}
-use Rattle.strips.specs.States.{Walked}
-use Rattle.strips.proofs.States.{row-more, row-in, lane-score}
+use Rattle.lanes.specs.Score.{at, score}
+use Rattle.lanes.specs.States.{Walked}
+use Rattle.lanes.proofs.States.{row-more, row-in, lane-score}
 use borrow.Author.Needs.{needs}
-use Rattle.strips.proofs.strip_score.Statement.{statement}
-use Rattle.strips.proofs.strip_score.Tie as tie
+use Rattle.lanes.proofs.strip_score.Statement.{statement}
+use Rattle.lanes.proofs.strip_score.Tie as tie
 
 abbrev Inv-loop : tie.InvT-loop
 Inv-loop e down across from to c k v₀ steps t₀ v t =

@@ -1,0 +1,3 @@
+pub mod Walk
+pub mod Score
+pub mod States

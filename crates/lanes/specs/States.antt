@@ -1,0 +1,45 @@
+-- For the contracts inside, and for callers that walk strips of their own: the lanes of a strip while it is walked down.
+use Prim.Native.Nat.{ℕ, _+_, _*_, _≤_, _<_}
+use mathlib.Core.Bool.{Bool, not}
+use mathlib.Core.Path.{_≡_}
+use mathlib.Core.List.{List}
+use lib.Dec.{eqb}
+use lib.ListN.{getD}
+use Rattle.lists.specs.Picture.{bit}
+use Rattle.lanes.specs.declared.Lanes.{Lanes}
+use Rattle.lanes.specs.Score.{Place, onward, leastCost, onStrip}
+
+-- bytes of 0 and 1
+abbrev pub Marks : List ℕ → Type 0
+Marks e = (k : ℕ) → getD e k 0 ≤ 1
+
+-- each lane holds n less its cost
+pub record LanesHold (n : ℕ) (cost : ℕ → ℕ) (v : Lanes) : Type 0 where
+  pub a : v .a + cost 0 ≡ n
+  pub b : v .b + cost 1 ≡ n
+  pub c : v .c + cost 2 ≡ n
+  pub d : v .d + cost 3 ≡ n
+  pub e : v .e + cost 4 ≡ n
+
+-- every lane's cost is below n
+abbrev pub Below : ℕ → (ℕ → ℕ) → Type 0
+Below n cost = (j : ℕ) → j ≤ 4 → cost j < n
+
+-- 1 where the byte at k is no set point
+abbrev pub unset : List ℕ → ℕ → ℕ
+unset e k = bit (not (eqb (getD e k 0) 1))
+
+-- w is v with the points that the lanes leave from, whatever the costs: they start at o and lie `across` apart
+abbrev pub Pointed : List ℕ → ℕ → ℕ → Lanes → Lanes → Type 0
+Pointed e o across v w =
+    (n : ℕ) (cost : ℕ → ℕ) → LanesHold n cost v → LanesHold (n + 1) (λ j. cost j + unset e (o + j * across)) w
+
+-- w is v one row on, whatever the costs: the points of the new row start at o and lie `across` apart
+abbrev pub Advanced : List ℕ → ℕ → ℕ → Lanes → Lanes → Type 0
+Advanced e o across v w =
+    (n : ℕ) (cost : ℕ → ℕ) → Below n cost → LanesHold n cost v →
+    LanesHold (n + 1) (onward (λ j. cost j + unset e (o + j * across))) w
+
+-- the lanes of a place's strip after t steps: 5 and the steps, less the least cost
+abbrev pub Walked : (ℕ → ℕ → Bool) → ℕ → Place → ℕ → Lanes → Type 0
+Walked E from p t v = LanesHold (t + 5) (leastCost (onStrip E from p) (p .lane) t) v
