@@ -1,49 +1,41 @@
 -- A loop that collects entries at the front of a lent list: those that it has and those still to come make the whole. Assumes nothing.
 use Prim.Native.Nat.{ℕ, suc, _+_, _-_, _≤_, _<_}
-use mathlib.Core.Path.{_≡_, refl, sym, ap, _∙_}
+use mathlib.Core.Path.{_≡_, refl, sym, _∙_}
 use mathlib.Core.Bool.{Bool, true, false, cond}
 use mathlib.Core.List.{List, [], _∷_, _++_, append-nil}
 use native.Mathlib.Nat.{sub-zero}
 use native.Mathlib.Numerals.{add-one}
 use native.Mathlib.Omega.{arith}
 use lib.Dec.{ltb}
-use lib.ListN.{length, getD, set, take, drop, length-drop, length-set, take-append-drop}
-use lib.Seq.{take-suc-set, drop-set-lt, append-snoc, drop-drop, drop-cons, length-take-le}
+use lib.ListN.{length, getD, set, drop, length-drop, length-append}
+use lib.Seq.{append-snoc, drop-cons}
+use Rattle.lists.specs.Front.{AtFront}
 use Rattle.lists.specs.Tab.{tabFrom, tab}
-use Rattle.lines.specs.Lines.{keep, gaps, wideGaps, Listed}
+use Rattle.lists.proofs.Front.{front-none, front-push}
+use Rattle.lines.specs.Lines.{keep, gaps, wideGaps}
 
--- n entries of `whole` stand at the front of `out`, `rest` is still to come, and what lies after is as it was lent
+-- n entries stand at the front of `out`; `rest` is still to come, and makes the whole with them
 pub record Collected (whole rest : List ℕ) (n : ℕ) (lent out : List ℕ) : Type 0 where
-  pub len : length out ≡ length lent
-  pub room : n ≤ length lent
-  pub whole-is : take n out ++ rest ≡ whole
-  pub after : drop n out ≡ drop n lent
+  pub list : List ℕ
+  pub counted : n ≡ length list
+  pub front : AtFront list lent out
+  pub whole-is : list ++ rest ≡ whole
 
 pub collected-none : {whole lent : List ℕ} → Collected whole whole 0 lent lent
-collected-none = record { len = refl; room = omega arith; whole-is = refl; after = refl }
+collected-none = record { list = []; counted = refl; front = front-none; whole-is = refl }
 
-collected-more :
-    {whole rest : List ℕ} {n v : ℕ} {lent out : List ℕ}
-    → Collected whole (v ∷ rest) n lent out
-    → n < length lent
+collected-more : {whole rest : List ℕ} {n v : ℕ} {lent out : List ℕ} → Collected whole (v ∷ rest) n lent out → n < length lent
     → Collected whole rest (n + 1) lent (set out n v)
-collected-more {whole} {rest} {n} {v} {lent} {out} h l =
-    let r : n < length out = omega (arith, h .len) in
+collected-more {whole} {rest} {n} {v} h l =
     record {
-      len = length-set out n v ∙ h .len;
-      room = omega arith;
-      whole-is = rw (add-one n, take-suc-set out n v r) (append-snoc (take n out) v rest ∙ h .whole-is);
-      after = drop-set-lt (n + 1) out n v (omega arith) ∙ sym (drop-drop 1 n out) ∙ ap (drop 1) (h .after) ∙ drop-drop 1 n lent;
+      list = h .list ++ (v ∷ []);
+      counted = simp length-append (omega (arith, h .counted));
+      front = front-push v n (sym (h .counted)) (h .front) l;
+      whole-is = append-snoc (h .list) v rest ∙ h .whole-is;
     }
 
-pub collected-all : {whole : List ℕ} {n : ℕ} {lent out : List ℕ} → Collected whole [] n lent out → Listed whole n lent out
-collected-all {whole} {n} {lent} {out} h =
-    let e : take n out ≡ whole = rw append-nil at (h .whole-is) in
-    let r : n ≤ length out = omega (arith, h .len, h .room) in
-    record {
-      counted = sym (length-take-le n out r) ∙ ap length e;
-      is = sym (take-append-drop n out) ∙ rw (e, h .after);
-    }
+pub collected-all : {whole : List ℕ} {n : ℕ} {lent out : List ℕ} → Collected whole [] n lent out → (n ≡ length whole) × AtFront whole lent out
+collected-all h = let e : h .list ≡ _ = rw append-nil at (h .whole-is) in (rw e at (h .counted), rw e at (h .front))
 
 -- v in front of the rest, if it is kept
 abbrev pub keptIf : Bool → ℕ → List ℕ → List ℕ

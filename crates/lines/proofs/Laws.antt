@@ -1,23 +1,17 @@
 -- For callers: how many lines and wide gaps there are and how large, and what remains after both drops. Assumes nothing.
 use Prim.Native.Nat.{ℕ, _+_, _-_, _≤_, _<_}
-use mathlib.Core.Path.{_≡_}
+use mathlib.Core.Path.{_≡_, refl}
 use mathlib.Core.Bool.{Bool, true, false, cond}
 use mathlib.Core.List.{List, [], _∷_}
-use native.Mathlib.Nat.{sub-zero}
 use native.Mathlib.Omega.{arith}
 use borrow.Author.Tests.{ltb-true}
 use lib.Dec.{ltb}
-use lib.ListN.{length, getD, take, drop}
-use lib.Seq.{take-append-seam}
-use Rattle.lines.specs.Lines.{largest, keep, gaps, linesOf, wideGaps, estimate, dropFirst, dropLast, Listed}
+use lib.ListN.{length, getD}
+use Rattle.lines.specs.Lines.{largest, keep, gaps, linesOf, wideGaps, chosenGap, estimate, dropFirst, dropLast}
 use Rattle.lines.proofs.Windows.{largest-le}
 use Rattle.lines.proofs.Rounding.{cut-below, not-narrow}
 use Rattle.lines.proofs.Rising.{Rising, rising-lines, rising-first, rising-last, rising-at, rising-length}
 use Rattle.lines.proofs.Members.{Has, has-at, has-entry, has-keep, has-first, has-last, two-of-gap, span}
-
--- what was listed, as the part of the lent list that holds it
-pub listed-front : (list : List ℕ) {n : ℕ} {lent out : List ℕ} → Listed list n lent out → take (n - 0) out ≡ list
-listed-front list {n} {lent} h = rw (sub-zero, h .is, h .counted) (take-append-seam list (drop (length list) lent))
 
 pub lines-few : (s : List ℕ) → length (linesOf s) ≤ length s
 lines-few s = omega (arith, rising-length 0 (length s) (linesOf s) (rising-lines s) (omega arith))
@@ -53,9 +47,13 @@ wide-in s v m =
 pub gaps-low : (s : List ℕ) → largest (wideGaps (linesOf s)) ≤ length s
 gaps-low s = let d = wideGaps (linesOf s) in largest-le d (length s) (λ k h. omega (arith, wide-in s (getD d k 0) (has-at d k h) .1))
 
-estimate-has : (d : List ℕ) → 1 ≤ length d → length d ≤ 4096 → Has (estimate d) d
+-- e is the entry that was chosen, and one of the wide gaps
+pub estimate-is : (lines : List ℕ) → chosenGap (wideGaps lines) ≡ estimate lines
 unfolding estimate
-estimate-has d l h = has-entry d _ (cut-below (length d) l h)
+estimate-is lines = refl
+
+estimate-has : (lines : List ℕ) → 1 ≤ length (wideGaps lines) → length (wideGaps lines) ≤ 4096 → Has (estimate lines) (wideGaps lines)
+estimate-has lines l h = let d = wideGaps lines in rw (← estimate-is lines) (has-entry d _ (cut-below (length d) l h))
 
 -- e and the lines that remain of n scores
 pub record Kept (n e : ℕ) (lines : List ℕ) : Type 0 where
@@ -71,12 +69,12 @@ pub kept :
     (s : List ℕ)
     → length s ≤ 4096
     → 1 ≤ length (wideGaps (linesOf s))
-    → let e = estimate (wideGaps (linesOf s)) in Kept (length s) e (dropLast e (dropFirst e (linesOf s)))
+    → let e = estimate (linesOf s) in Kept (length s) e (dropLast e (dropFirst e (linesOf s)))
 kept s h l =
     let lines = linesOf s in
-    let e = estimate (wideGaps lines) in
+    let e = estimate lines in
     let n = length s in
-    let w = wide-in s e (estimate-has (wideGaps lines) l (omega (arith, gaps-few lines, lines-few s))) in
+    let w = wide-in s e (estimate-has lines l (omega (arith, gaps-few lines, lines-few s))) in
     let wide = not-narrow e (w .0) (omega (arith, w .1)) in
     let rest = dropLast e (dropFirst e lines) in
     let m = has-last e wide (dropFirst e lines) (has-first e wide lines (w .2)) in

@@ -1,13 +1,15 @@
 -- The lines rise strictly, and so do those that the drops leave. Assumes nothing.
 use Prim.Native.Nat.{ℕ, zero, suc, _+_, _-_, _≤_, _<_}
-use mathlib.Core.Path.{_≡_}
+use mathlib.Core.Path.{_≡_, refl}
 use mathlib.Core.Bool.{Bool, true, false, cond}
 use mathlib.Core.List.{List, [], _∷_}
 use native.Mathlib.Nat.{zero-add}
 use native.Mathlib.Omega.{arith}
+use lib.Ieee.{Float}
 use lib.ListN.{length, getD}
 use Rattle.lists.specs.Tab.{tabFrom, tab}
-use Rattle.lines.specs.Lines.{lineThreshold, smooth, isLine, keep, linesOf, narrowGap, dropFirst, dropLast}
+use Rattle.lines.specs.Lines.{lineThreshold, smooth, isLine, keep, placesOf, linesOf, narrowGap, dropFirst, dropLast}
+use Rattle.lines.proofs.Smoothing.{length-smooth}
 
 -- strictly rising, from `low` on and below `high`
 abbrev pub Rising : ℕ → ℕ → List ℕ → Type 0
@@ -32,9 +34,15 @@ rising-keep p low high (x ∷ l) w = at (rising-keep p (suc x) high l (w .2)) (p
     at ih true = (w .0, w .1, ih)
     at ih false = rising-sooner low (suc x) high (keep p l) (omega (arith, w .0)) ih
 
-pub rising-lines : (s : List ℕ) → Rising 0 (length s) (linesOf s)
+rising-of : (th : Float) (t : List ℕ) → Rising 0 (length t) (placesOf th t)
+rising-of th t = rising-keep (isLine th t) 0 (length t) (tab (length t) (λ i. i)) (rw zero-add at (rising-places 0 (length t)))
+
+lines-are : (s : List ℕ) → placesOf (lineThreshold s) (smooth s) ≡ linesOf s
 unfolding linesOf
-rising-lines s = rising-keep (isLine (lineThreshold s) (smooth s)) 0 (length s) (tab (length s) (λ i. i)) (rw zero-add at (rising-places 0 (length s)))
+lines-are s = refl
+
+pub rising-lines : (s : List ℕ) → Rising 0 (length s) (linesOf s)
+rising-lines s = rw (lines-are s, length-smooth s) at (rising-of (lineThreshold s) (smooth s))
 
 pub rising-first : (e low high : ℕ) (l : List ℕ) → Rising low high l → Rising low high (dropFirst e l)
 rising-first e low high [] w = tt

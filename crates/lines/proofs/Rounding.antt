@@ -10,9 +10,9 @@ use lib.Ieee.{Float, nan, inf, fin, binary32, le, mul, round, ofInt, ofBits, toU
 use lib.Ieee.Exact.{HasValue}
 use lib.Ieee.Order.{round-mono}
 use lib.Ieee.Positive.{positive, own-value, positive-of-value, values-of-le, le-trans-positive, between, mul-at}
-use Rattle.binary32.specs.Binary32.{trunc}
+use Rattle.binary32.specs.Binary32.{float, trunc}
 use Rattle.binary32.proofs.Values.{T-of, whole-value}
-use Rattle.lines.specs.Lines.{float, narrowGap}
+use Rattle.lines.specs.Lines.{narrowGap}
 
 whole-positive : (n : ℕ) → 1 ≤ n → n ≤ 4096 → T (positive (float n))
 whole-positive n l h = positive-of-value (float n) n 1 (whole-value n (omega arith)) l

@@ -40,6 +40,9 @@ largest-drop zero l = omega arith
 largest-drop (suc n) [] = omega arith
 largest-drop (suc n) (x ∷ l) = omega (arith, largest-drop n l)
 
+pub largest-part : (n k : ℕ) (l : List ℕ) → largest (take n (drop k l)) ≤ largest l
+largest-part n k l = omega (arith, largest-take n (drop k l), largest-drop k l)
+
 max-zero : (n : ℕ) → max n 0 ≡ n
 max-zero n = omega arith
 

@@ -2,14 +2,13 @@
 use Prim.Native.Nat.{ℕ, _+_, _-_, _≤_, min, max}
 use mathlib.Core.Path.{_≡_}
 use mathlib.Core.Bool.{Bool, cond, _&&_, _||_}
-use mathlib.Core.List.{List, [], _∷_, _++_}
+use mathlib.Core.List.{List, [], _∷_}
 use lib.Dec.{leb, ltb, eqb}
-use lib.IntN.{pos}
-use lib.Ieee.{Float, binary32, le, add, mul, div, ofInt, ofBits}
+use lib.Ieee.{Float, binary32, le, add, mul, div, ofBits}
 use lib.ListN.{length, getD, take, drop}
 use Rattle.lists.specs.Count.{count}
 use Rattle.lists.specs.Tab.{tab}
-use Rattle.binary32.specs.Binary32.{trunc}
+use Rattle.binary32.specs.Binary32.{float, trunc}
 use Rattle.rank.specs.Rank.{self, entry}
 
 abbrev pub largest : List ℕ → ℕ
@@ -18,13 +17,9 @@ largest (x ∷ l) = max x (largest l)
 
 -- a list of scores within the limits: 4 to 4,096 of them, none above 4,096
 pub record InLimits (s : List ℕ) : Type 0 where
-  pub least : 4 ≤ length s
-  pub most : length s ≤ 4096
+  pub shortest : 4 ≤ length s
+  pub longest : length s ≤ 4096
   pub entries : largest s ≤ 4096
-
--- a whole number as a binary32
-abbrev pub float : ℕ → Float
-float n = ofInt binary32 (pos n)
 
 -- th = (sorted[trunc(0.85·L)] + last sorted · 0.75) / 2.0
 unfoldable pub lineThreshold : List ℕ → Float
@@ -67,9 +62,14 @@ abbrev pub keep : (ℕ → Bool) → List ℕ → List ℕ
 keep p [] = []
 keep p (x ∷ l) = cond (p x) (x ∷ keep p l) (keep p l)
 
+-- the places of t that are lines
+abbrev pub placesOf : Float → List ℕ → List ℕ
+placesOf th t = keep (isLine th t) (tab (length t) (λ i. i))
+
+-- the lines of s
 unfoldable pub linesOf : List ℕ → List ℕ
 unfolding lineThreshold smooth isLine
-linesOf s = keep (isLine (lineThreshold s) (smooth s)) (tab (length s) (λ i. i))
+linesOf s = placesOf (lineThreshold s) (smooth s)
 
 abbrev pub gaps : List ℕ → List ℕ
 gaps [] = []
@@ -80,10 +80,14 @@ gaps (x ∷ y ∷ l) = (y - x) ∷ gaps (y ∷ l)
 abbrev pub wideGaps : List ℕ → List ℕ
 wideGaps lines = keep (λ g. ltb 5 g) (gaps lines)
 
--- e = d[trunc(0.4·count)], d sorted
+-- d[trunc(0.4·count)], d sorted
+abbrev pub chosenGap : List ℕ → ℕ
+chosenGap d = entry self 0 d (trunc (mul binary32 (float (length d)) (ofBits binary32 0x3ECCCCCD)))
+
+-- e of the lines
 unfoldable pub estimate : List ℕ → ℕ
 unfolding entry
-estimate d = entry self 0 d (trunc (mul binary32 (float (length d)) (ofBits binary32 0x3ECCCCCD)))
+estimate lines = chosenGap (wideGaps lines)
 
 -- a gap of at most e · 0.8
 unfoldable pub narrowGap : ℕ → ℕ → Bool
@@ -103,11 +107,6 @@ dropLast e (x ∷ y ∷ []) = cond (narrowGap e (y - x)) (x ∷ []) (x ∷ y ∷
 dropLast e (x ∷ y ∷ z ∷ l) = x ∷ dropLast e (y ∷ z ∷ l)
 
 -- ---- for the contracts inside
-
--- what the code hands back: `count` entries, the list at the front of what was lent
-pub record Listed (list : List ℕ) (count : ℕ) (lent out : List ℕ) : Type 0 where
-  pub counted : count ≡ length list
-  pub is : out ≡ list ++ drop count lent
 
 -- the lines that remain after both drops, as a part of the lines
 pub record Remains (e : ℕ) (lines : List ℕ) (from end : ℕ) : Type 0 where

@@ -2,13 +2,12 @@
 // Laws for callers: proofs/Laws (the lines rise, two remain after the drops, e is above 5 and at most their extent).
 ghost use mathlib.Core.Path.{_≡_};
 ghost use mathlib.Core.Bool.{_||_};
-ghost use mathlib.Core.List.{[], _∷_, _++_};
 ghost use Prim.Native.Nat.{_+_, _-_, _≤_, _<_, min, max};
 ghost use lib.Dec.{eqb};
 ghost use lib.ListN.{length, getD, take, drop};
-ghost use Rattle.lists.specs.Tab.{tab};
-ghost use Rattle.lines.specs.Lines.{largest, InLimits, before, behind, smoothed, smooth, countEqual, standsOut, isLine, keep, linesOf, lineThreshold};
-ghost use Rattle.lines.specs.Lines.{Listed, wideGaps, estimate, narrowGap, dropFirst, dropLast, Remains};
+ghost use Rattle.lists.specs.Front.{AtFront};
+ghost use Rattle.lines.specs.Lines.{largest, InLimits, before, behind, smoothed, smooth, standsOut, isLine, linesOf, lineThreshold};
+ghost use Rattle.lines.specs.Lines.{placesOf, wideGaps, chosenGap, narrowGap, dropFirst, dropLast, Remains};
 
 // No score is above this, and no list longer.
 const MOST: u32 = 4096;
@@ -17,12 +16,6 @@ fn larger(a: u32, b: u32) -> u32
     ensures { λ r. ⌜ r ≡ max a b ⌝ }
 {
     if a > b { a } else { b }
-}
-
-fn smaller(a: u32, b: u32) -> u32
-    ensures { λ r. ⌜ r ≡ min a b ⌝ }
-{
-    if a < b { a } else { b }
 }
 
 pub fn largest_of(s: &[u32]) -> u32
@@ -37,39 +30,49 @@ pub fn largest_of(s: &[u32]) -> u32
 
 // ---- smoothing
 
+// The larger and the smaller of two scores. They are apart from `larger` above: that one takes any number, as the list is still unchecked where its
+// largest entry is asked for, and these two may count on scores of at most 4,096.
+fn larger_score(a: u32, b: u32) -> u32
+    requires { ⌜ (a ≤ 4096) × (b ≤ 4096) ⌝ }
+    ensures { λ r. ⌜ r ≡ max a b ⌝ }
+{
+    if a > b { a } else { b }
+}
+
+fn smaller_score(a: u32, b: u32) -> u32
+    requires { ⌜ (a ≤ 4096) × (b ≤ 4096) ⌝ }
+    ensures { λ r. ⌜ r ≡ min a b ⌝ }
+{
+    if a < b { a } else { b }
+}
+
 fn largest_of_four(s: &[u32], at: usize) -> u32
-    requires { ⌜ at + 4 ≤ length (now s) ⌝ }
+    requires { ⌜ (at + 4 ≤ length (now s)) × (largest (now s) ≤ 4096) ⌝ }
     ensures { λ r. ⌜ r ≡ largest (take 4 (drop at (now (s .entry)))) ⌝ }
 {
-    larger(s[at], larger(s[at + 1], larger(s[at + 2], s[at + 3])))
+    larger_score(
+        s[at],
+        larger_score(s[at + 1], larger_score(s[at + 2], s[at + 3])),
+    )
 }
 
 // A place with four neighbours on each side.
 fn smooth_at(s: &[u32], i: usize) -> u32
-    requires { ⌜ (4 ≤ i) × (i + 4 < length (now s)) ⌝ }
+    requires { ⌜ (4 ≤ i) × (i + 4 < length (now s)) × (largest (now s) ≤ 4096) ⌝ }
     ensures { λ r. ⌜ r ≡ smoothed (now (s .entry)) i ⌝ }
 {
-    larger(
+    larger_score(
         s[i],
-        smaller(largest_of_four(s, i - 4), largest_of_four(s, i + 1)),
+        smaller_score(largest_of_four(s, i - 4), largest_of_four(s, i + 1)),
     )
-}
-
-fn copy_into(s: &[u32], t: &mut [u32])
-    requires { ⌜ length (now s) ≤ length (now t) ⌝ }
-    ensures { λ _. ⌜ now (t .exit) ≡ now (s .entry) ++ drop (length (now (s .entry))) (now (t .entry)) ⌝ }
-{
-    for k in 0..s.len() {
-        t[k] = s[k];
-    }
 }
 
 // The first and last four are as in s; those between have four neighbours on each side.
 pub fn smooth_into(s: &[u32], t: &mut [u32])
-    requires { ⌜ (4 ≤ length (now s)) × (length (now s) ≤ length (now t)) ⌝ }
-    ensures { λ _. ⌜ now (t .exit) ≡ smooth (now (s .entry)) ++ drop (length (now (s .entry))) (now (t .entry)) ⌝ }
+    requires { ⌜ (4 ≤ length (now s)) × (largest (now s) ≤ 4096) × (length (now s) ≤ length (now t)) ⌝ }
+    ensures { λ _. ⌜ AtFront (smooth (now (s .entry))) (now (t .entry)) (now (t .exit)) ⌝ }
 {
-    copy_into(s, t);
+    lists::copy_u32(s, s.len(), t);
     let end = s.len() - 4;
     for i in 4..end {
         t[i] = smooth_at(s, i);
@@ -115,23 +118,6 @@ fn seven_behind<'a>(t: &'a [u32], i: usize) -> &'a [u32]
     &t[from..end]
 }
 
-fn one_equal(x: u32, v: u32) -> u32
-    ensures { λ r. ⌜ r ≡ countEqual v (x ∷ []) ⌝ }
-{
-    if x == v { 1 } else { 0 }
-}
-
-fn count_equal(s: &[u32], v: u32) -> u32
-    requires { ⌜ length (now s) ≤ 7 ⌝ }
-    ensures { λ r. ⌜ r ≡ countEqual v (now (s .entry)) ⌝ }
-{
-    let mut n: u32 = 0;
-    for k in 0..s.len() {
-        n = n + one_equal(s[k], v);
-    }
-    n
-}
-
 // The equals before are those after, or one less.
 fn balanced(before: u32, after: u32) -> bool
     requires { ⌜ (before ≤ 7) × (after ≤ 7) ⌝ }
@@ -154,7 +140,7 @@ fn stands_out(v: u32, a: &[u32], b: &[u32]) -> bool
     if largest_of(b) > v {
         return false;
     }
-    balanced(count_equal(a, v), count_equal(b, v))
+    balanced(lists::count_equal(a, v), lists::count_equal(b, v))
 }
 
 // Few places reach the threshold, so it is tested first.
@@ -172,7 +158,8 @@ fn is_line(th: f32, t: &[u32], i: usize) -> bool
 // The places of t that are lines.
 fn collect_lines(th: f32, t: &[u32], lines: &mut [u32]) -> usize
     requires { ⌜ (length (now t) ≤ 4096) × (largest (now t) ≤ 4096) × (length (now t) ≤ length (now lines)) ⌝ }
-    ensures { λ r. ⌜ Listed (keep (isLine th (now (t .entry))) (tab (length (now (t .entry))) (λ i. i))) r (now (lines .entry)) (now (lines .exit)) ⌝ }
+    ensures counted { λ r. ⌜ r ≡ length (placesOf th (now (t .entry))) ⌝ }
+    ensures front { λ _. ⌜ AtFront (placesOf th (now (t .entry))) (now (lines .entry)) (now (lines .exit)) ⌝ }
 {
     let mut n: usize = 0;
     for i in 0..t.len() {
@@ -187,7 +174,8 @@ fn collect_lines(th: f32, t: &[u32], lines: &mut [u32]) -> usize
 // The lines of s, and how many; t is scratch.
 pub fn find_lines(s: &[u32], t: &mut [u32], lines: &mut [u32]) -> usize
     requires { ⌜ InLimits (now s) × (length (now s) ≤ length (now t)) × (length (now s) ≤ length (now lines)) ⌝ }
-    ensures { λ r. ⌜ Listed (linesOf (now (s .entry))) r (now (lines .entry)) (now (lines .exit)) ⌝ }
+    ensures counted { λ r. ⌜ r ≡ length (linesOf (now (s .entry))) ⌝ }
+    ensures front { λ _. ⌜ AtFront (linesOf (now (s .entry))) (now (lines .entry)) (now (lines .exit)) ⌝ }
 {
     smooth_into(s, t);
     let th = line_threshold(s);
@@ -207,7 +195,8 @@ fn gap(x: u32, y: u32) -> u32
 // The gaps above 5, and how many.
 pub fn wide_gaps(lines: &[u32], out: &mut [u32]) -> usize
     requires { ⌜ length (now lines) ≤ length (now out) ⌝ }
-    ensures { λ r. ⌜ Listed (wideGaps (now (lines .entry))) r (now (out .entry)) (now (out .exit)) ⌝ }
+    ensures counted { λ r. ⌜ r ≡ length (wideGaps (now (lines .entry))) ⌝ }
+    ensures front { λ _. ⌜ AtFront (wideGaps (now (lines .entry))) (now (out .entry)) (now (out .exit)) ⌝ }
 {
     let mut n: usize = 0;
     for k in 1..lines.len() {
@@ -220,9 +209,10 @@ pub fn wide_gaps(lines: &[u32], out: &mut [u32]) -> usize
     n
 }
 
-pub fn estimate_of(d: &[u32]) -> u32
+// Of the gaps d the one that is e.
+pub fn chosen_gap(d: &[u32]) -> u32
     requires { ⌜ (length (now d) ≤ 4096) × (largest (now d) ≤ 4096) ⌝ }
-    ensures { λ r. ⌜ r ≡ estimate (now (d .entry)) ⌝ }
+    ensures { λ r. ⌜ r ≡ chosenGap (now (d .entry)) ⌝ }
 {
     let j = binary32::trunc(d.len() as f32 * 0.4) as usize;
     rank::entry_of(d, j, MOST)
@@ -266,18 +256,18 @@ fn last_kept(lines: &[u32], e: u32) -> usize
 }
 
 // The lines that remain are those from `from` up to `end`.
-pub struct Range {
+pub struct KeptRange {
     pub from: usize,
     pub end: usize,
 }
 
-pub fn kept_range(lines: &[u32], e: u32) -> Range
+pub fn kept_range(lines: &[u32], e: u32) -> KeptRange
     requires { ⌜ (largest (now lines) ≤ 4096) × (e ≤ 4096) ⌝ }
     ensures { λ r. ⌜ Remains e (now (lines .entry)) (r .from) (r .end) ⌝ }
 {
     let from = first_kept(lines, e);
     let kept = last_kept(&lines[from..], e);
-    Range {
+    KeptRange {
         from,
         end: from + kept,
     }

@@ -1,27 +1,9 @@
-// Entry j of a list sorted rising, found by counting: no sort, no copy. Definitions: specs/Rank. Laws for callers: proofs/Entry, proofs/Members, proofs/Counts.
+// Entry j of a list sorted rising, found by counting: no sort, no copy. Definitions: specs/Rank.
+// Laws for callers: proofs/Entry, proofs/Members, proofs/Counts.
 ghost use mathlib.Core.Path.{_≡_};
-ghost use mathlib.Core.List.{[], _∷_};
 ghost use Prim.Native.Nat.{_≤_, _^_};
 ghost use lib.ListN.{length};
 ghost use Rattle.rank.specs.Rank.{countAtMost, self, entry};
-
-fn one_at_most(x: u32, v: u32) -> u32
-    ensures { λ r. ⌜ r ≡ countAtMost self v (x ∷ []) ⌝ }
-{
-    if x <= v { 1 } else { 0 }
-}
-
-// How many entries are at most v. A counter of 32 bits keeps four lanes to a register.
-pub fn count_at_most(s: &[u32], v: u32) -> u32
-    requires { ⌜ length (now s) ≤ 2 ^ 24 ⌝ }
-    ensures { λ r. ⌜ r ≡ countAtMost self v (now (s .entry)) ⌝ }
-{
-    let mut n: u32 = 0;
-    for k in 0..s.len() {
-        n = n + one_at_most(s[k], v);
-    }
-    n
-}
 
 // Entry j of s sorted rising, where no entry is above `most`; 0 where there is no entry j. It halves the range of values.
 pub fn entry_of(s: &[u32], j: usize, most: u32) -> u32
@@ -35,7 +17,7 @@ pub fn entry_of(s: &[u32], j: usize, most: u32) -> u32
     let mut hi: u32 = most;
     while lo < hi {
         let mid = lo + (hi - lo) / 2;
-        if j < count_at_most(s, mid) as usize {
+        if j < lists::count_at_most(s, mid) as usize {
             hi = mid;
         } else {
             lo = mid + 1;

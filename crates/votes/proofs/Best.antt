@@ -8,7 +8,7 @@ use borrow.Author.Tests.{ltb-true, ltb-false}
 use lib.Dec.{ltb}
 use Rattle.votes.specs.declared.Choice.{Choice}
 use Rattle.votes.specs.Votes.{Ahead}
-use Rattle.votes.specs.Search.{Within, Block, Picks}
+use Rattle.votes.specs.VoteSearch.{OneOf, Block, Picks}
 
 -- ---- the order
 
@@ -95,16 +95,16 @@ pub record Next (from n p k w : ℕ) : Type 0 where
   pub total : w ≡ n + k
 
 module _ {from n p k w : ℕ} (next : Next from n p k w) {x : ℕ} where
-  front : Within from n x → Within from w x
+  front : OneOf from n x → OneOf from w x
   front h = record { low = h .low; high = omega arith }
 
-  back : Within p k x → Within from w x
+  back : OneOf p k x → OneOf from w x
   back h = record { low = omega arith; high = omega arith }
 
-  side : Within from w x → Within from n x ⊎ Within p k x
+  side : OneOf from w x → OneOf from n x ⊎ OneOf p k x
   side h = at (ltb x p) refl
     where
-      at : (t : Bool) → ltb x p ≡ t → Within from n x ⊎ Within p k x
+      at : (t : Bool) → ltb x p ≡ t → OneOf from n x ⊎ OneOf p k x
       at true e = inl (record { low = h .low; high = omega (arith, ltb-true x p e) })
       at false e = inr (record { low = ltb-false x p e; high = omega arith })
 
@@ -115,7 +115,7 @@ module _ {f : ℕ → ℕ → ℕ} {a b r : Choice} where
       picks-on s t (λ c h. put h (front next (h .quarters))) (λ c h. put h (back next (h .quarters)))
       (λ c h. ⊎-map (put h) (put h) (side next (h .quarters)))
     where
-      put : {c : Choice} {o n q m p k : ℕ} → Block f o n q m c → Within p k (c .quarter) → Block f o n p k c
+      put : {c : Choice} {o n q m p k : ℕ} → Block f o n q m c → OneOf p k (c .quarter) → Block f o n p k c
       put h i = record { counted = h .counted; offsets = h .offsets; quarters = i }
 
   pub offsets-on : {o n q m p k w : ℕ} → Next o n p k w → Picks (Block f o n q m) a b → Picks (Block f p k q m) b r → Picks (Block f o w q m) a r
@@ -123,11 +123,11 @@ module _ {f : ℕ → ℕ → ℕ} {a b r : Choice} where
       picks-on s t (λ c h. put h (front next (h .offsets))) (λ c h. put h (back next (h .offsets)))
       (λ c h. ⊎-map (put h) (put h) (side next (h .offsets)))
     where
-      put : {c : Choice} {o n q m p k : ℕ} → Block f o n q m c → Within p k (c .offset) → Block f p k q m c
+      put : {c : Choice} {o n q m p k : ℕ} → Block f o n q m c → OneOf p k (c .offset) → Block f p k q m c
       put h i = record { counted = h .counted; offsets = i; quarters = h .quarters }
 
 -- only the votes within the block matter
-pub block-same : {f g : ℕ → ℕ → ℕ} {o n q m : ℕ} {a r : Choice} → ((x y : ℕ) → Within o n x → Within q m y → f x y ≡ g x y) →
+pub block-same : {f g : ℕ → ℕ → ℕ} {o n q m : ℕ} {a r : Choice} → ((x y : ℕ) → OneOf o n x → OneOf q m y → f x y ≡ g x y) →
     Picks (Block f o n q m) a r → Picks (Block g o n q m) a r
 block-same {f} {g} {o} {n} {q} {m} e p =
     record {
@@ -136,7 +136,7 @@ block-same {f} {g} {o} {n} {q} {m} e p =
       over = λ c h. p .over c (put (λ x y i j. sym (e x y i j)) h);
     }
   where
-    put : {f g : ℕ → ℕ → ℕ} {c : Choice} → ((x y : ℕ) → Within o n x → Within q m y → f x y ≡ g x y) → Block f o n q m c → Block g o n q m c
+    put : {f g : ℕ → ℕ → ℕ} {c : Choice} → ((x y : ℕ) → OneOf o n x → OneOf q m y → f x y ≡ g x y) → Block f o n q m c → Block g o n q m c
     put d h = record { counted = h .counted ∙ d _ _ (h .offsets) (h .quarters); offsets = h .offsets; quarters = h .quarters }
 
 pub picks-low : {f : ℕ → ℕ → ℕ} {o n q m : ℕ} {a r : Choice} (p : ℕ) →

@@ -8,18 +8,16 @@ use native.Mathlib.Numerals.{add-one}
 use native.Mathlib.Omega.{arith}
 use borrow.Author.Tests.{eq-eqb, ne-eqb, eqb-true, eqb-false}
 use lib.Dec.{eqb}
-use lib.ListN.{length, getD, set, drop, length-set, drop-of-length-le}
+use lib.ListN.{length, getD, set, drop, replicate, length-set, length-replicate, getD-replicate, drop-of-length-le}
 use lib.Seq.{getD-set-same, getD-set-other, drop-cons}
-use Rattle.votes.specs.Votes.{most, least, given, votes}
-use Rattle.votes.specs.Search.{hit, Added}
+use Rattle.lists.specs.Front.{AtFront}
+use Rattle.lists.proofs.Front.{front-within}
+use Rattle.votes.specs.Votes.{maxPitch, minPitch, votesOfLine, votes}
+use Rattle.votes.specs.VoteSearch.{hit, Added}
 
-pub zero-more : (row : List ℕ) (o : ℕ) → o < length row → ((k : ℕ) → k < o → getD row k 0 ≡ 0) →
-    (k : ℕ) → k < o + 1 → getD (set row o 0) k 0 ≡ 0
-zero-more row o h z k l = go (eqb k o) refl
-  where
-    go : (t : Bool) → eqb k o ≡ t → getD (set row o 0) k 0 ≡ 0
-    go true e = rw (eqb-true k o e) (getD-set-same row o 0 0 h)
-    go false e = let n = eqb-false k o e in getD-set-other row o k 0 0 (λ q. n (omega arith)) ∙ z k (omega arith)
+-- a row that was cleared
+pub cleared-at : (width : ℕ) {row out : List ℕ} → AtFront (replicate width 0) row out → (o : ℕ) → o < width → getD out o 0 ≡ 0
+cleared-at width h o l = front-within 0 o h (rw (length-replicate {A = ℕ} width 0) l) ∙ getD-replicate width o 0 0 l
 
 -- ---- one vote
 
@@ -66,16 +64,16 @@ adding-fits more less g f e o b = omega (arith, g .at o b, f o b, e o)
 
 -- ---- one n more, one line more
 
-pub given-more : (l q n end : ℕ) → n < end → (o : ℕ) →
-    given l q o n (end - n) ≡ hit l (n * q / 4) o + (hit (l + 1) (n * q / 4) o + given l q o (n + 1) (end - (n + 1)))
-given-more l q n end h o = let e : end - n ≡ suc (end - (n + 1)) = omega arith in rw (e, add-one n) (omega arith)
+pub votes-of-line-more : (l q n end : ℕ) → n < end → (o : ℕ) →
+    votesOfLine l q o n (end - n) ≡ hit l (n * q / 4) o + (hit (l + 1) (n * q / 4) o + votesOfLine l q o (n + 1) (end - (n + 1)))
+votes-of-line-more l q n end h o = let e : end - n ≡ suc (end - (n + 1)) = omega arith in rw (e, add-one n) (omega arith)
 
-pub given-none : (l q n end : ℕ) → end ≤ n → (o : ℕ) → given l q o n (end - n) ≡ 0
-given-none l q n end h o = let e : end - n ≡ 0 = omega arith in rw e
+pub votes-of-line-none : (l q n end : ℕ) → end ≤ n → (o : ℕ) → votesOfLine l q o n (end - n) ≡ 0
+votes-of-line-none l q n end h o = let e : end - n ≡ 0 = omega arith in rw e
 
 -- x and y stand for the largest and the smallest pitch, as the code has them
-pub votes-more : (e : ℕ) (lines : List ℕ) (k q x y : ℕ) → k < length lines → x ≡ most e → y ≡ least e → (o : ℕ) →
-    let l = getD lines k 0 in votes e (drop k lines) o q ≡ given l q o (l / x) (l / y + 1 - l / x) + votes e (drop (k + 1) lines) o q
+pub votes-more : (e : ℕ) (lines : List ℕ) (k q x y : ℕ) → k < length lines → x ≡ maxPitch e → y ≡ minPitch e → (o : ℕ) →
+    let l = getD lines k 0 in votes e (drop k lines) o q ≡ votesOfLine l q o (l / x) (l / y + 1 - l / x) + votes e (drop (k + 1) lines) o q
 votes-more e lines k q x y h g s o = rw (g, s, add-one k, drop-cons lines k 0 h, add-one)
 
 pub votes-none : (e : ℕ) (lines : List ℕ) (k q : ℕ) → length lines ≤ k → (o : ℕ) → votes e (drop k lines) o q ≡ 0
@@ -83,14 +81,14 @@ votes-none e lines k q h o = rw (drop-of-length-le lines h)
 
 -- ---- how many there are at most
 
-pub turns : (e l y : ℕ) → y ≡ least e → l ≤ 4095 → l / y + 1 ≤ 512
+pub turns : (e l y : ℕ) → y ≡ minPitch e → l ≤ 4095 → l / y + 1 ≤ 512
 turns e l y s h = rw add-one (div-lt-iff-lt-mul {k = y} {x = l} {y = 512} (omega arith) .1 (omega arith))
 
-given-few : (l q o from count : ℕ) → given l q o from count ≤ 2 * count
-given-few l q o from zero = omega arith
-given-few l q o from (suc count) = at (given-few l q o (suc from) count) (eqb (o + from * q / 4) l) (eqb (o + from * q / 4) (l + 1))
+votes-of-line-few : (l q o from count : ℕ) → votesOfLine l q o from count ≤ 2 * count
+votes-of-line-few l q o from zero = omega arith
+votes-of-line-few l q o from (suc count) = at (votes-of-line-few l q o (suc from) count) (eqb (o + from * q / 4) l) (eqb (o + from * q / 4) (l + 1))
   where
-    at : given l q o (suc from) count ≤ 2 * count → (s t : Bool) → cond s 1 0 + cond t 1 0 + given l q o (suc from) count ≤ 2 * suc count
+    at : votesOfLine l q o (suc from) count ≤ 2 * count → (s t : Bool) → cond s 1 0 + cond t 1 0 + votesOfLine l q o (suc from) count ≤ 2 * suc count
     at ih true true = omega arith
     at ih true false = omega arith
     at ih false true = omega arith
@@ -99,4 +97,4 @@ given-few l q o from (suc count) = at (given-few l q o (suc from) count) (eqb (o
 pub votes-few : (e : ℕ) (lines : List ℕ) (q : ℕ) → ((k : ℕ) → getD lines k 0 ≤ 4095) → (o : ℕ) → votes e lines o q ≤ 1024 * length lines
 votes-few e [] q h o = omega arith
 votes-few e (l ∷ lines) q h o =
-    omega (arith, votes-few e lines q (λ k. h (suc k)) o, turns e l (least e) refl (h 0), given-few l q o (l / most e) (suc (l / least e) - l / most e))
+    omega (arith, votes-few e lines q (λ k. h (suc k)) o, turns e l (minPitch e) refl (h 0), votes-of-line-few l q o (l / maxPitch e) (suc (l / minPitch e) - l / maxPitch e))

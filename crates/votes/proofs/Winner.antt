@@ -10,8 +10,8 @@ use borrow.Author.Tests.{ltb-true, ltb-false}
 use lib.Dec.{ltb}
 use lib.ListN.{getD}
 use Rattle.votes.specs.declared.Choice.{Choice}
-use Rattle.votes.specs.Votes.{most, least, lastOffset, votes, better, overQuarters, overOffsets, winner}
-use Rattle.votes.specs.Search.{Added, Block, Picks}
+use Rattle.votes.specs.Votes.{maxPitch, minPitch, lastOffset, votes, better, overQuarters, overOffsets, winner}
+use Rattle.votes.specs.VoteSearch.{Added, Block, Picks}
 use Rattle.votes.proofs.Best.{ahead-more, ahead-tie, pair, pair-kept, pair-taken, picks-none, picks-one, picks-low, block-same, quarters-on, offsets-on}
 
 -- what is searched from (o, q) on comes after a
@@ -25,7 +25,7 @@ nothing = record { votes = 0; offset = 0; quarter = 0 }
 
 -- a choice of the searched range, with its votes
 abbrev pub InRange : ℕ → List ℕ → Choice → Type 0
-InRange e lines = Block (votes e lines) 0 (suc (lastOffset lines)) (4 * least e) (suc (4 * most e) - 4 * least e)
+InRange e lines = Block (votes e lines) 0 (suc (lastOffset lines)) (4 * minPitch e) (suc (4 * maxPitch e) - 4 * minPitch e)
 
 module _ (e : ℕ) (lines : List ℕ) where
   better-picks : (a : Choice) (o q : ℕ) → Before a o q → Picks (Block (votes e lines) o 1 q 1) a (better a (pair (votes e lines) o q))
@@ -48,11 +48,11 @@ module _ (e : ℕ) (lines : List ℕ) where
       let n : suc q ≡ q + 1 = omega arith in
       quarters-on (record { start = n; total = omega arith }) s (over-quarters o (suc q) m _ (before-next n h s))
 
-  over-offsets : (o n : ℕ) (a : Choice) → Before a o (4 * least e) →
-      Picks (Block (votes e lines) o n (4 * least e) (suc (4 * most e) - 4 * least e)) a (overOffsets e lines o n a)
+  over-offsets : (o n : ℕ) (a : Choice) → Before a o (4 * minPitch e) →
+      Picks (Block (votes e lines) o n (4 * minPitch e) (suc (4 * maxPitch e) - 4 * minPitch e)) a (overOffsets e lines o n a)
   over-offsets o zero a h = picks-none (λ c b. omega (arith, b .offsets))
   over-offsets o (suc n) a h =
-      let s = over-quarters o (4 * least e) (suc (4 * most e) - 4 * least e) a h in
+      let s = over-quarters o (4 * minPitch e) (suc (4 * maxPitch e) - 4 * minPitch e) a h in
       let b = before-next refl h s in
       offsets-on (record { start = omega arith; total = omega arith }) s
       (over-offsets (suc o) n _ (record { offset = omega (arith, b .offset); quarter = λ x. absurd (omega (arith, b .offset)) }))
@@ -63,7 +63,7 @@ module _ (e : ℕ) (lines : List ℕ) where
 
   -- whoever finds the best of the same range has found it
   pub winner-found : {width from end : ℕ} {r : Choice} → Picks (Block (votes e lines) 0 width from (end - from)) nothing r →
-      width ≡ suc (lastOffset lines) → from ≡ 4 * least e → end ≡ suc (4 * most e) → r ≡ winner e lines
+      width ≡ suc (lastOffset lines) → from ≡ 4 * minPitch e → end ≡ suc (4 * maxPitch e) → r ≡ winner e lines
   winner-found p w f n = picks-one (rw (w, f, n) at p) winner-picks
 
 -- ---- the search of the code: one q after another

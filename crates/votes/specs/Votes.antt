@@ -7,11 +7,12 @@ use lib.Dec.{eqb, ltb}
 use lib.ListN.{getD}
 use Rattle.votes.specs.declared.Choice.{Choice}
 
-abbrev pub most : ℕ → ℕ
-most e = min 200 (e + 5)
+-- the largest and the smallest pitch that is searched: 01's max and min
+abbrev pub maxPitch : ℕ → ℕ
+maxPitch e = min 200 (e + 5)
 
-abbrev pub least : ℕ → ℕ
-least e = max 8 (e - 5)
+abbrev pub minPitch : ℕ → ℕ
+minPitch e = max 8 (e - 5)
 
 -- the largest offset that is searched: 7 past the first line
 abbrev pub lastOffset : List ℕ → ℕ
@@ -20,19 +21,19 @@ lastOffset lines = getD lines 0 0 + 7
 -- the searched range, both ends with it
 pub record Searched (lines : List ℕ) (e offset q : ℕ) : Type 0 where
   pub offset-in : offset ≤ lastOffset lines
-  pub above : 4 * least e ≤ q
-  pub below : q ≤ 4 * most e
+  pub above : 4 * minPitch e ≤ q
+  pub below : q ≤ 4 * maxPitch e
 
 -- how often the two formulas l − ⌊n·q/4⌋ and l + 1 − ⌊n·q/4⌋ give the offset, for `count` values of n from `from` on
-abbrev pub given : ℕ → ℕ → ℕ → ℕ → ℕ → ℕ
-given l q offset from zero = 0
-given l q offset from (suc count) =
-    cond (eqb (offset + from * q / 4) l) 1 0 + cond (eqb (offset + from * q / 4) (l + 1)) 1 0 + given l q offset (suc from) count
+abbrev pub votesOfLine : ℕ → ℕ → ℕ → ℕ → ℕ → ℕ
+votesOfLine l q offset from zero = 0
+votesOfLine l q offset from (suc count) =
+    cond (eqb (offset + from * q / 4) l) 1 0 + cond (eqb (offset + from * q / 4) (l + 1)) 1 0 + votesOfLine l q offset (suc from) count
 
 -- the votes of an offset with a q: over every line l and every n from ⌊l/max⌋ to ⌊l/min⌋
 abbrev pub votes : ℕ → List ℕ → ℕ → ℕ → ℕ
 votes e [] offset q = 0
-votes e (l ∷ lines) offset q = given l q offset (l / most e) (suc (l / least e) - l / most e) + votes e lines offset q
+votes e (l ∷ lines) offset q = votesOfLine l q offset (l / maxPitch e) (suc (l / minPitch e) - l / maxPitch e) + votes e lines offset q
 
 -- the one with more votes, and the earlier one where they have as many
 abbrev pub better : Choice → Choice → Choice
@@ -48,7 +49,7 @@ overQuarters e lines offset q (suc count) best =
 abbrev pub overOffsets : ℕ → List ℕ → ℕ → ℕ → Choice → Choice
 overOffsets e lines offset zero best = best
 overOffsets e lines offset (suc count) best =
-    overOffsets e lines (suc offset) count (overQuarters e lines offset (4 * least e) (suc (4 * most e) - 4 * least e) best)
+    overOffsets e lines (suc offset) count (overQuarters e lines offset (4 * minPitch e) (suc (4 * maxPitch e) - 4 * minPitch e) best)
 
 -- most votes wins, then the smallest offset, then the smallest q
 unfoldable pub winner : ℕ → List ℕ → Choice

@@ -3,8 +3,8 @@
 ghost use mathlib.Core.Path.{_≡_};
 ghost use Prim.Native.Nat.{ℕ, _+_, _-_, _*_, _^_, _≤_, _<_};
 ghost use lib.ListN.{length, getD};
-ghost use Rattle.votes.specs.Votes.{most, least, given, votes, winner};
-ghost use Rattle.votes.specs.Search.{hit, Added, Block, Picks};
+ghost use Rattle.votes.specs.Votes.{maxPitch, minPitch, votesOfLine, votes, winner};
+ghost use Rattle.votes.specs.VoteSearch.{hit, Added, Block, Picks};
 
 // An offset with a pitch in quarters, and the votes that the pair gets.
 pub struct Choice {
@@ -20,30 +20,21 @@ const SMALLEST: usize = 8;
 
 const LARGEST: usize = 200;
 
-fn most_of(e: u32) -> usize
-    ensures { λ r. ⌜ r ≡ most e ⌝ }
+fn max_pitch(e: u32) -> usize
+    ensures { λ r. ⌜ r ≡ maxPitch e ⌝ }
 {
     let pitch = e as usize + SPREAD;
     if pitch < LARGEST { pitch } else { LARGEST }
 }
 
-fn least_of(e: u32) -> usize
-    ensures { λ r. ⌜ r ≡ least e ⌝ }
+fn min_pitch(e: u32) -> usize
+    ensures { λ r. ⌜ r ≡ minPitch e ⌝ }
 {
     let pitch = e as usize;
     if pitch < SMALLEST + SPREAD {
         SMALLEST
     } else {
         pitch - SPREAD
-    }
-}
-
-fn clear(row: &mut [u32], width: usize)
-    requires { ⌜ width ≤ length (now row) ⌝ }
-    ensures { λ _. ⌜ (length (now (row .exit)) ≡ length (now (row .entry))) × ((o : ℕ) → o < width → getD (now (row .exit)) o 0 ≡ 0) ⌝ }
-{
-    for o in 0..width {
-        row[o] = 0;
     }
 }
 
@@ -63,8 +54,8 @@ fn vote(row: &mut [u32], width: usize, l: usize, s: usize)
 // The votes of a line with one q, for each n from `from` to before `end`.
 fn vote_line(row: &mut [u32], width: usize, l: usize, q: usize, from: usize, end: usize)
     requires { ⌜ (width ≤ length (now row)) × (l ≤ 4095) × (q ≤ 800) × (end ≤ 512) ⌝ }
-    requires { ⌜ ((o : ℕ) → o < width → getD (now row) o 0 + given l q o from (end - from) < 2 ^ 32) ⌝ }
-    ensures { λ _. ⌜ Added width (λ o. given l q o from (end - from)) (now (row .entry)) (now (row .exit)) ⌝ }
+    requires { ⌜ ((o : ℕ) → o < width → getD (now row) o 0 + votesOfLine l q o from (end - from) < 2 ^ 32) ⌝ }
+    ensures { λ _. ⌜ Added width (λ o. votesOfLine l q o from (end - from)) (now (row .entry)) (now (row .exit)) ⌝ }
 {
     for n in from..end {
         let s = n * q / 4;
@@ -81,7 +72,7 @@ fn vote_lines(row: &mut [u32], width: usize, lines: &[u32], e: u32, q: usize)
 {
     for k in 0..lines.len() {
         let l = lines[k] as usize;
-        vote_line(row, width, l, q, l / most_of(e), l / least_of(e) + 1);
+        vote_line(row, width, l, q, l / max_pitch(e), l / min_pitch(e) + 1);
     }
 }
 
@@ -128,8 +119,8 @@ pub fn winner_of(lines: &[u32], e: u32, row: &mut [u32]) -> Choice
         offset: 0,
         quarter: 0,
     };
-    for q in 4 * least_of(e)..4 * most_of(e) + 1 {
-        clear(row, width);
+    for q in 4 * min_pitch(e)..4 * max_pitch(e) + 1 {
+        lists::clear_u32(row, width);
         vote_lines(row, width, lines, e, q);
         best = best_in_row(row, width, q, best);
     }

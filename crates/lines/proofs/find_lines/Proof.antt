@@ -2,7 +2,7 @@
 use Rattle.lines.specs.Lines.{linesOf}
 use native.Mathlib.Omega.{arith}
 use denote.Ref.{now}
-use Rattle.lines.proofs.Smoothing.{front-smooth, length-smooth, largest-smooth}
+use Rattle.lines.proofs.Smoothing.{smooth-part, length-smooth, largest-smooth}
 use borrow.Author.Needs.{needs}
 use Rattle.lines.proofs.find_lines.Statement.{statement}
 use Rattle.lines.proofs.find_lines.Tie as tie
@@ -26,7 +26,7 @@ collect-lines-requires : tie.Need-collect-lines-requires
 collect-lines-requires c κs =
     let at = c .before .before .before .before .before .before .before .before .before .before .before in
     let s = now (at .args .s) in
-    let front = front-smooth s _ (c .before .before .before .before .before .before .smooth-into .ensures) in
+    let front = smooth-part s (c .before .before .before .before .before .before .smooth-into .ensures) in
     let len = length-smooth s in
     rw front (omega (arith, len, at .pre), omega (arith, largest-smooth s, at .pre), omega (arith, len, at .pre))
 
@@ -41,8 +41,8 @@ unfolding linesOf
 returns c =
     let at = c .before .before .before .before .before .before in
     let s = now (at .before .before .before .before .before .before .before .before .args .s) in
-    let front = front-smooth s _ (at .before .before .before .smooth-into .ensures) in
-    rw (← at .line-threshold .ensures) (rw (front, length-smooth s) at (c .before .before .collect-lines .ensures))
+    let front = smooth-part s (at .before .before .before .smooth-into .ensures) in
+    rw (← at .line-threshold .ensures) (rw front at (c .before .before .collect-lines .ensures))
 
 pub find-lines-spec : {M : Type 1} → statement M
 find-lines-spec =

@@ -9,19 +9,19 @@ use Rattle.lines.proofs.line_threshold.Statement.{statement}
 use Rattle.lines.proofs.line_threshold.Tie as tie
 
 int-to-float-trunc : tie.Need-int-to-float-trunc
-int-to-float-trunc c = in-float (omega (arith, c .before .before .pre .most))
+int-to-float-trunc c = in-float (omega (arith, c .before .before .pre .longest))
 
 trunc-requires : tie.Need-trunc-requires
 trunc-requires c κs = search needs
 
 entry-of-requires : tie.Need-entry-of-requires
-entry-of-requires c κs = let at = c .before .before .before in (omega (arith, at .pre .most), all-counted (now (at .args .s)) _ (at .pre .entries))
+entry-of-requires c κs = let at = c .before .before .before in (omega (arith, at .pre .longest), all-counted (now (at .args .s)) _ (at .pre .entries))
 
 sub-entry-of : tie.Need-sub-entry-of
 sub-entry-of c = search needs
 
 entry-of-requires-2 : tie.Need-entry-of-requires-2
-entry-of-requires-2 c κs = let at = c .before .before .before .before in (omega (arith, at .pre .most), all-counted (now (at .args .s)) _ (at .pre .entries))
+entry-of-requires-2 c κs = let at = c .before .before .before .before in (omega (arith, at .pre .longest), all-counted (now (at .args .s)) _ (at .pre .entries))
 
 int-to-float-result : tie.Need-int-to-float-result
 int-to-float-result c =

@@ -74,7 +74,7 @@ loop-again c =
     (c .if1 .came)
 
 same-length : tie.Need-same-length Inv-loop μ-loop
-same-length c = c .before .loop .inv .4 .len
+same-length c = c .before .loop .inv .4 .front .len
 
 returns : tie.Need-returns Inv-loop μ-loop
 returns c =

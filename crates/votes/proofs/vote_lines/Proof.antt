@@ -18,6 +18,13 @@ Inv-loop row₀ width lines e q k₀ k-end row k =
 abbrev μ-loop : tie.MeasureT-loop
 μ-loop row₀ width lines e q k₀ k-end row k = length lines - k
 
+-- the places that the others follow
+abbrev start : tie.At-loop Inv-loop μ-loop → tie.Start Inv-loop μ-loop
+start c = c .before .before .before
+
+abbrev at-loop : tie.After-min-pitch Inv-loop μ-loop → tie.At-loop Inv-loop μ-loop
+at-loop c = c .before .before .before .before .before
+
 loop-holds : tie.Need-loop-holds Inv-loop μ-loop
 loop-holds c = (omega arith, refl, refl, adding-none)
 
@@ -30,32 +37,33 @@ shared-slice-read-l c = search needs
 cast-l : tie.Need-cast-l Inv-loop μ-loop
 cast-l c = omega (arith, c .shared-slice-known2 .given (c .before .before .loop .k))
 
-most-of-requires : tie.Need-most-of-requires Inv-loop μ-loop
-most-of-requires c κs = search needs
+max-pitch-requires : tie.Need-max-pitch-requires Inv-loop μ-loop
+max-pitch-requires c κs = search needs
 
 div-vote-line : tie.Need-div-vote-line Inv-loop μ-loop
-div-vote-line c = omega (arith, c .most-of .ensures)
+div-vote-line c = omega (arith, c .max-pitch .ensures)
 
-least-of-requires : tie.Need-least-of-requires Inv-loop μ-loop
-least-of-requires c κs = search needs
+min-pitch-requires : tie.Need-min-pitch-requires Inv-loop μ-loop
+min-pitch-requires c κs = search needs
 
 div-vote-line-2 : tie.Need-div-vote-line-2 Inv-loop μ-loop
-div-vote-line-2 c = omega (arith, c .least-of .ensures)
+div-vote-line-2 c = omega (arith, c .min-pitch .ensures)
 
 add-vote-line : tie.Need-add-vote-line Inv-loop μ-loop
 add-vote-line c =
-    let start = c .before .before .before .before .before .before .before .before in
-    let k = c .before .before .before .before .before .loop .k in
-    omega (arith, turns (start .args .e) (getD (now (start .args .lines)) k 0) _ (c .least-of .ensures) (start .pre .0 .1 k))
+    let at = at-loop c in
+    let first = start at in
+    let l = getD (now (first .args .lines)) (at .loop .k) 0 in
+    omega (arith, turns (first .args .e) l _ (c .min-pitch .ensures) (first .pre .0 .1 (at .loop .k)))
 
 vote-line-requires : tie.Need-vote-line-requires Inv-loop μ-loop
 vote-line-requires c κs =
-    let start = c .before .before .before .before .before .before .before .before in
-    let a = start .args in
-    let at = c .before .before .before .before .before .loop in
-    let more = votes-more (a .e) (now (a .lines)) (at .k) (a .q) _ _ (omega arith) (c .before .most-of .ensures) (c .least-of .ensures) in (
-      (omega arith, start .pre .0 .1 (at .k), start .pre .0 .2, turns (a .e) _ _ (c .least-of .ensures) (start .pre .0 .1 (at .k))),
-      adding-fits _ _ (at .inv .3) (start .pre .1) more,
+    let at = at-loop c .loop in
+    let first = start (at-loop c) in
+    let a = first .args in
+    let more = votes-more (a .e) (now (a .lines)) (at .k) (a .q) _ _ (omega arith) (c .before .max-pitch .ensures) (c .min-pitch .ensures) in (
+      (omega arith, first .pre .0 .1 (at .k), first .pre .0 .2, turns (a .e) _ _ (c .min-pitch .ensures) (first .pre .0 .1 (at .k))),
+      adding-fits _ _ (at .inv .3) (first .pre .1) more,
     )
 
 add-k : tie.Need-add-k Inv-loop μ-loop
@@ -66,10 +74,10 @@ loop-less c = search needs
 
 loop-again : tie.Need-loop-again Inv-loop μ-loop
 loop-again c =
-    let a = c .before .before .before .before .before .before .before .before .before .before .before .args in
-    let at = c .before .before .before .before .before .before .before .before .loop in
     let calls = c .before .before .before in
-    let more = votes-more (a .e) (now (a .lines)) (at .k) (a .q) _ _ (omega arith) (calls .before .most-of .ensures) (calls .least-of .ensures) in
+    let at = at-loop calls .loop in
+    let a = start (at-loop calls) .args in
+    let more = votes-more (a .e) (now (a .lines)) (at .k) (a .q) _ _ (omega arith) (calls .before .max-pitch .ensures) (calls .min-pitch .ensures) in
     let next = adding-more (at .inv .3) (c .before .before .vote-line .ensures) more in
     (omega arith, refl, next .len, next)
 
@@ -78,7 +86,7 @@ same-length c = search needs
 
 returns : tie.Need-returns Inv-loop μ-loop
 returns c =
-    let end : length (now (c .before .before .before .before .args .lines)) ≤ c .before .loop .k = omega arith in
+    let end : length (now (start (c .before) .args .lines)) ≤ c .before .loop .k = omega arith in
     adding-done (c .before .loop .inv .3) (votes-none _ _ _ _ end)
 
 pub vote-lines-spec : {M : Type 1} → statement M
@@ -91,9 +99,9 @@ vote-lines-spec =
     mul-l
     shared-slice-read-l
     cast-l
-    most-of-requires
+    max-pitch-requires
     div-vote-line
-    least-of-requires
+    min-pitch-requires
     div-vote-line-2
     add-vote-line
     vote-line-requires

@@ -6,7 +6,7 @@ use native.Mathlib.Omega.{arith}
 use denote.Ref.{now}
 use lib.ListN.{length}
 use Rattle.votes.specs.Votes.{votes}
-use Rattle.votes.proofs.Row.{votes-few}
+use Rattle.votes.proofs.Row.{cleared-at, votes-few}
 use Rattle.votes.proofs.Winner.{Passed, passed-none, passed-more, passed-all, passed-low, row-picks, winner-found}
 use borrow.Author.Needs.{needs}
 use Rattle.votes.proofs.winner_of.Statement.{statement}
@@ -18,6 +18,19 @@ Inv-loop lines e row₀ width best₀ q₀ q-end row best q = (length row ≡ le
 abbrev μ-loop : tie.MeasureT-loop
 μ-loop lines e row₀ width best₀ q₀ q-end row best q = q-end - q
 
+-- the places that the others follow
+abbrev start : tie.At-loop Inv-loop μ-loop → tie.Start Inv-loop μ-loop
+start c = c .before .before .before .before .before .before
+
+abbrev at-loop : tie.After-clear-u32 Inv-loop μ-loop → tie.At-loop Inv-loop μ-loop
+at-loop c = c .before .before .before
+
+abbrev at-clear : tie.After-vote-lines Inv-loop μ-loop → tie.After-clear-u32 Inv-loop μ-loop
+at-clear c = c .before .before .before .before
+
+abbrev at-votes : tie.After-best-in-row-arg Inv-loop μ-loop → tie.After-vote-lines Inv-loop μ-loop
+at-votes c = c .before .before .before
+
 shared-slice-read-width : tie.Need-shared-slice-read-width Inv-loop μ-loop
 shared-slice-read-width c = search needs
 
@@ -27,14 +40,14 @@ cast-width c = search needs
 add-width : tie.Need-add-width Inv-loop μ-loop
 add-width c = search needs
 
-least-of-requires : tie.Need-least-of-requires Inv-loop μ-loop
-least-of-requires c κs = search needs
+min-pitch-requires : tie.Need-min-pitch-requires Inv-loop μ-loop
+min-pitch-requires c κs = search needs
 
 mul-q : tie.Need-mul-q Inv-loop μ-loop
 mul-q c = search needs
 
-most-of-requires : tie.Need-most-of-requires Inv-loop μ-loop
-most-of-requires c κs = search needs
+max-pitch-requires : tie.Need-max-pitch-requires Inv-loop μ-loop
+max-pitch-requires c κs = search needs
 
 mul-q-end : tie.Need-mul-q-end Inv-loop μ-loop
 mul-q-end c = search needs
@@ -45,23 +58,23 @@ add-q-end c = search needs
 loop-holds : tie.Need-loop-holds Inv-loop μ-loop
 loop-holds c = (refl, passed-none)
 
-clear-requires : tie.Need-clear-requires Inv-loop μ-loop
-clear-requires c κs = search needs
+clear-u32-requires : tie.Need-clear-u32-requires Inv-loop μ-loop
+clear-u32-requires c κs = search needs
 
 vote-lines-requires : tie.Need-vote-lines-requires Inv-loop μ-loop
 vote-lines-requires c κs =
-    let start = c .before .before .before .before .before .before .before .before .before .before .before .before in
-    let q = c .before .before .before .before .before .before .loop .q in
-    let cleared = c .before .before .before .clear .ensures in
-    let few = votes-few (start .args .e) (now (start .args .lines)) q (start .pre .0 .2) in
-    ((omega (arith, cleared .0), start .pre .0 .2, omega arith), λ o h. omega (arith, cleared .1 o h, few o))
+    let clear = c .before .before .before in
+    let at = at-loop clear in
+    let first = start at in
+    let few = votes-few (first .args .e) (now (first .args .lines)) (at .loop .q) (first .pre .0 .2) in
+    let cleared = clear .clear-u32 .ensures in
+    ((omega (arith, cleared .len), first .pre .0 .2, omega arith), λ o h. omega (arith, cleared-at _ cleared o h, few o))
 
 best-in-row-requires : tie.Need-best-in-row-requires Inv-loop μ-loop
 best-in-row-requires c κs =
-    let at = c .before .before .before .before .before .before .before .before .before .before .loop in (
-      omega (arith, c .before .before .before .vote-lines .ensures .len, c .before .before .before .before .before .before .before .clear .ensures .0),
-      passed-low (at .inv .1),
-    )
+    let voted = at-votes c in
+    let clear = at-clear voted in
+    (omega (arith, voted .vote-lines .ensures .len, clear .clear-u32 .ensures .len), passed-low (at-loop clear .loop .inv .1))
 
 add-q : tie.Need-add-q Inv-loop μ-loop
 add-q c = search needs
@@ -71,19 +84,22 @@ loop-less c = search needs
 
 loop-again : tie.Need-loop-again Inv-loop μ-loop
 loop-again c =
-    let at = c .before .before .before .before .before .before .before .before .before .before .before in
-    let cleared = c .before .before .before .before .before .before .before .before .clear .ensures in
-    let voted = c .before .before .before .before .vote-lines .ensures in
-    (voted .len ∙ cleared .0 ∙ at .loop .inv .0, passed-more (at .loop .inv .1) (omega arith) (row-picks (cleared .1) voted (c .best-in-row .ensures)))
+    let voted = at-votes (c .before) .vote-lines .ensures in
+    let clear = at-clear (at-votes (c .before)) in
+    let cleared = clear .clear-u32 .ensures in
+    let at = at-loop clear in (
+      voted .len ∙ cleared .len ∙ at .loop .inv .0,
+      passed-more (at .loop .inv .1) (omega arith) (row-picks (cleared-at _ cleared) voted (c .best-in-row .ensures)),
+    )
 
 same-length : tie.Need-same-length Inv-loop μ-loop
 same-length c = search needs
 
 returns : tie.Need-returns Inv-loop μ-loop
 returns c =
-    let a = c .before .before .before .before .before .before .before .args in
+    let a = start (c .before) .args in
     winner-found (a .e) (now (a .lines)) (passed-all (c .before .loop .inv .1) (c .loop-test .left)) (omega arith)
-    (omega (arith, c .before .before .before .least-of .ensures)) (omega (arith, c .before .before .most-of .ensures))
+    (omega (arith, c .before .before .before .min-pitch .ensures)) (omega (arith, c .before .before .max-pitch .ensures))
 
 pub winner-of-spec : {M : Type 1} → statement M
 winner-of-spec =
@@ -94,13 +110,13 @@ winner-of-spec =
     shared-slice-read-width
     cast-width
     add-width
-    least-of-requires
+    min-pitch-requires
     mul-q
-    most-of-requires
+    max-pitch-requires
     mul-q-end
     add-q-end
     loop-holds
-    clear-requires
+    clear-u32-requires
     vote-lines-requires
     best-in-row-requires
     add-q

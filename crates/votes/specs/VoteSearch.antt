@@ -20,15 +20,15 @@ pub record Added (width : ℕ) (v : ℕ → ℕ) (row out : List ℕ) : Type 0 w
   pub at : (o : ℕ) → o < width → getD out o 0 ≡ getD row o 0 + v o
 
 -- x is one of `count` numbers from `from` on
-pub record Within (from count x : ℕ) : Type 0 where
+pub record OneOf (from count x : ℕ) : Type 0 where
   pub low : from ≤ x
   pub high : x < from + count
 
 -- a choice of n offsets from o on and m values of q from q on, whose votes are f's
 pub record Block (f : ℕ → ℕ → ℕ) (o n q m : ℕ) (c : Choice) : Type 0 where
   pub counted : c .votes ≡ f (c .offset) (c .quarter)
-  pub offsets : Within o n (c .offset)
-  pub quarters : Within q m (c .quarter)
+  pub offsets : OneOf o n (c .offset)
+  pub quarters : OneOf q m (c .quarter)
 
 -- r is the one of S and `best` that is ahead of the others
 pub record Picks (S : Choice → Type 0) (best r : Choice) : Type 0 where
