@@ -11,7 +11,7 @@ use Rattle.lists.specs.Picture.{flip}
 use Rattle.board.specs.declared.Bounds.{Bounds}
 use Rattle.strips.specs.Strip.{placeCount, scores, columnScores, rowScores}
 use Rattle.strips.specs.States.{Scorable}
-use Rattle.strips.proofs.Scores.{length-scores, scores-most, places-least, places-most}
+use Rattle.strips.proofs.Scores.{length-scores, scores-most, count-least, count-most}
 use Rattle.lines.specs.Lines.{InLimits}
 use Rattle.lines.proofs.Windows.{largest-le}
 use Rattle.votes.specs.Votes.{winner}
@@ -26,8 +26,8 @@ pub scores-fit : (E : ℕ → ℕ → Bool) (from to c₁ c₂ : ℕ) → c₁ +
 scores-fit E from to c₁ c₂ span high most =
     let n = length-scores E from to c₁ c₂ in
     record {
-      shortest = omega (arith, n, places-least c₁ c₂ span);
-      longest = omega (arith, n, places-most c₁ c₂ span);
+      shortest = omega (arith, n, count-least c₁ c₂);
+      longest = omega (arith, n, count-most c₁ c₂ span);
       entries = largest-le (scores E from to c₁ c₂) 4096 (λ i h. omega (arith, scores-most E from to c₁ c₂ i));
     }
 

@@ -3,12 +3,12 @@
 ghost use mathlib.Core.Path.{_≡_};
 ghost use Prim.Native.Nat.{_*_};
 ghost use lib.ListN.{length, drop};
-ghost use Rattle.load.specs.Load.{ofByte, LoadGives};
+ghost use Rattle.load.specs.Load.{mostByte, LoadGives};
 ghost use Rattle.gradient.specs.Gradient.{GradientGives};
 ghost use Rattle.reading.specs.Reading.{readingOf};
-ghost use Rattle.locate.specs.Locate.{fitAnswer, LocateGives, ScratchKept};
+ghost use Rattle.locate.specs.Locate.{lent, LocateGives};
 ghost use Rattle.locate.specs.Promise.{Promise};
-ghost use Rattle.sample.specs.Sample.{sampleAnswer, SampleGives};
+ghost use Rattle.sample.specs.Sample.{SampleGives};
 ghost use Rattle.folgutan.specs.Line.{lineOf};
 use board::Board;
 use load::Loaded;
@@ -32,7 +32,7 @@ pub extern "C" fn folgutan_load(
     pixels: &[u8],
     planes: &mut [f32],
 ) -> Loaded
-    ensures { λ r. ⌜ LoadGives ofByte height width (now (pixels .entry)) (now (planes .entry)) r (now (planes .exit)) ⌝ }
+    ensures { λ r. ⌜ LoadGives mostByte height width (now (pixels .entry)) (now (planes .entry)) r (now (planes .exit)) ⌝ }
 {
     load::new(height, width, pixels, planes)
 }
@@ -55,21 +55,26 @@ pub extern "C" fn folgutan_locate(
     planes: &mut [f32],
     edges: &mut [u8],
     scores: &mut [u32],
-    floats: &mut [f32],
-    bytes: &mut [u8],
-    words: &mut [u32],
+    scratch_f32: &mut [f32],
+    scratch_u8: &mut [u8],
+    scratch_u32: &mut [u32],
 ) -> Located
-    ensures gives { λ r. ⌜ LocateGives (fitAnswer (b .height) (b .width) (now (planes .entry)) (length (now (edges .entry))) (length (now (scores .entry))) (length (now (floats .entry))) (length (now (bytes .entry))) (length (now (words .entry)))) b (now (planes .entry)) (now (edges .entry)) (now (scores .entry)) r (now (planes .exit)) (now (edges .exit)) (now (scores .exit)) ⌝ }
-    ensures promise { λ r. ⌜ Promise (fitAnswer (b .height) (b .width) (now (planes .entry)) (length (now (edges .entry))) (length (now (scores .entry))) (length (now (floats .entry))) (length (now (bytes .entry))) (length (now (words .entry)))) b (now (planes .entry)) r (now (scores .exit)) ⌝ }
-    ensures kept { λ _. ⌜ ScratchKept (b .height) (b .width) (now (floats .entry)) (now (bytes .entry)) (now (words .entry)) (now (floats .exit)) (now (bytes .exit)) (now (words .exit)) ⌝ }
+    ensures { λ r.
+        let before = lent (now (planes .entry)) (now (edges .entry)) (now (scores .entry))
+        (now («scratch_f32» .entry)) (now («scratch_u8» .entry)) (now («scratch_u32» .entry)) in
+        let after = lent (now (planes .exit)) (now (edges .exit)) (now (scores .exit))
+        (now («scratch_f32» .exit)) (now («scratch_u8» .exit)) (now («scratch_u32» .exit)) in
+        ⌜ LocateGives b before r after × Promise b before r after ⌝ }
 {
-    locate::get_pos_pixel(b, planes, edges, scores, floats, bytes, words)
+    locate::get_pos_pixel(b, planes, edges, scores, scratch_f32, scratch_u8, scratch_u32)
 }
 
 #[no_mangle]
 pub extern "C" fn folgutan_read_line(list: &[u32], scratch: &mut [u32]) -> Line
     ensures reads { λ r. ⌜ r ≡ lineOf (readingOf (now (list .entry)) (length (now (scratch .entry)))) ⌝ }
-    ensures kept { λ _. ⌜ drop (4 * length (now (list .entry))) (now (scratch .exit)) ≡ drop (4 * length (now (list .entry))) (now (scratch .entry)) ⌝ }
+    ensures kept { λ _.
+        let n = 4 * length (now (list .entry)) in
+        ⌜ drop n (now (scratch .exit)) ≡ drop n (now (scratch .entry)) ⌝ }
 {
     let reading = reading::get_line(list, scratch);
     match reading {
@@ -104,7 +109,7 @@ pub extern "C" fn folgutan_sample(
     size: usize,
     out: &mut [f32],
 ) -> u32
-    ensures { λ r. ⌜ SampleGives b (now (planes .entry)) x y size (now (out .entry)) (sampleAnswer b (now (planes .entry)) x y size (length (now (out .entry)))) r (now (out .exit)) ⌝ }
+    ensures { λ r. ⌜ SampleGives b (now (planes .entry)) x y size (now (out .entry)) r (now (out .exit)) ⌝ }
 {
     sample::extra_save_cell(b, planes, x, y, size, out)
 }

@@ -88,10 +88,8 @@ pub extern "C" fn folgutan_inner_gradient_of(
     planes: &[f32],
     out: &mut [f32],
 )
-    requires { ⌜ sidesOutside leastPlaneSide height width ≡ false ⌝ }
-    requires { ⌜ (3 * (height * width) ≤ length (now planes)) × ((height - 2) * (width - 2) ≤ length (now out)) ⌝ }
-    requires { ⌜ allUnits (take (3 * (height * width)) (now planes)) ≡ true ⌝ }
-    ensures { λ _. ⌜ now (out .exit) ≡ gradients height width (now (planes .entry)) ++ drop ((height - 2) * (width - 2)) (now (out .entry)) ⌝ }
+    requires { ⌜ FitPlanes leastPlaneSide height width (now planes) × ((height - 2) * (width - 2) ≤ length (now out)) ⌝ }
+    ensures { λ _. ⌜ AtFront (gradients height width (now (planes .entry))) (now (out .entry)) (now (out .exit)) ⌝ }
 {
     gradient::gradient_of(height, width, planes, out)
 }

@@ -14,7 +14,7 @@ use Rattle.bounds.proofs.Laws as Laws
 use Rattle.narrowings.specs.declared.Narrowed.{Narrowed}
 use Rattle.strips.specs.Strip.{placeCount}
 use Rattle.strips.specs.States.{Scorable}
-use Rattle.strips.proofs.Scores.{places-most}
+use Rattle.strips.proofs.Scores.{count-most}
 use Rattle.axes.specs.Axes.{RoomFor}
 use Rattle.locate.specs.Steps.{Leads}
 
@@ -54,10 +54,10 @@ module _ {h w : ℕ} {l : Narrowed} {edges : List ℕ} {scores bytes words : ℕ
 
   -- an axis has no more places than the picture has columns, or rows
   columns-few : placeCount (widened .«c_1») (widened .«c_2») ≤ w
-  columns-few = let e = wide-enough in omega (arith, places-most (widened .«c_1») (widened .«c_2») (e .columns), e .column-end, g .high-w)
+  columns-few = let e = wide-enough in omega (arith, count-most (widened .«c_1») (widened .«c_2») (e .columns), e .column-end, g .high-w)
 
   rows-few : placeCount (widened .«r_1») (widened .«r_2») ≤ h
-  rows-few = let e = wide-enough in omega (arith, places-most (widened .«r_1») (widened .«r_2») (e .rows), e .row-end, g .high-h)
+  rows-few = let e = wide-enough in omega (arith, count-most (widened .«r_1») (widened .«r_2») (e .rows), e .row-end, g .high-h)
 
   pub room-for : RoomFor widened scores bytes words
   room-for =

@@ -60,7 +60,7 @@ module _ (f : ℕ) (two : 2 ≤ f) where
   sound-next {s = s} p e =
       let l = large (s .height / f) (s .width / f) e in
       record {
-        fit = narrow-fit f two leastSide (s .height) (s .width) (s .planes) (fit-lower 0 (omega arith) (p .fit)) (omega (arith, l .0)) (omega (arith, l .1));
+        fit = narrow-fit f two leastSide (fit-lower 0 (omega arith) (p .fit)) (omega (arith, l .0)) (omega (arith, l .1));
         high-h = omega (arith, p .high-h, div-le-self (s .height) f);
         high-w = omega (arith, p .high-w, div-le-self (s .width) f);
         area = omega (arith, p .area, smaller f (s .height) (s .width));

@@ -101,7 +101,7 @@ loop-again c =
     let m = at-narrow (other .before) in
     let inv = m .before .before .before .before .before .loop .inv in
     let e = m .narrow .ensures .0 in
-    (rw e (going-on 3 two (inv .0) (is-thin m) (goes-on other)), rw e at (c .before .before .before .before .look .ensures .bounds-are), omega (arith, inv .2), omega (arith, inv .3))
+    (rw e (going-on 3 two (inv .0) (is-thin m) (goes-on other)), c .before .before .before .before .look .ensures .bounds-are, omega (arith, inv .2), omega (arith, inv .3))
 
 same-length-4 : tie.Need-same-length-4 Inv-loop μ-loop
 same-length-4 c = search needs
