@@ -2,7 +2,7 @@
 use Prim.Native.Nat.{ℕ, _+_, _-_, _*_, _/_, _%_, _≤_, _<_}
 use mathlib.Core.Path.{_≡_, ap, _∙_}
 use mathlib.Core.Bool.{true}
-use mathlib.Core.List.{List, _++_, append-assoc}
+use mathlib.Core.List.{List, append-assoc}
 use native.Mathlib.Nat.{mul-pos, mul-le-mul, div-le-self}
 use native.Mathlib.Omega.{arith}
 use lib.Ieee.{Float, nan, binary32, ofBits, toBits}
