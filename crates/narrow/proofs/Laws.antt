@@ -2,7 +2,7 @@
 use Prim.Native.Nat.{ℕ, _+_, _-_, _*_, _/_, _%_, _≤_, _<_}
 use mathlib.Core.Path.{_≡_, ap, _∙_}
 use mathlib.Core.Bool.{true}
-use mathlib.Core.List.{List, _++_, append-assoc}
+use mathlib.Core.List.{List, append-assoc}
 use native.Mathlib.Nat.{mul-pos, mul-le-mul, div-le-self}
 use native.Mathlib.Omega.{arith}
 use lib.Ieee.{Float, nan, binary32, ofBits, toBits}
@@ -36,7 +36,8 @@ pub narrow-length : (f h w : ℕ) (planes : List Float) → 3 * (h * w) ≤ leng
 narrow-length f h w planes l = simp (length-append, length-packed, length-replicate, length-drop) (omega (arith, smaller f h w))
 
 -- the narrowed planes are units
-narrowed-units : (f h w : ℕ) (planes : List Float) → 0 < f → FitPlanes 0 h w planes → allUnits (packed (narrowed f (view h w planes))) ≡ true
+narrowed-units : (f h w : ℕ) (planes : List Float) → 0 < f → FitPlanes 0 h w planes
+    → allUnits (packed (narrowed f (view h w planes))) ≡ true
 narrowed-units f h w planes l p =
     let s = narrowed f (view h w planes) in
     let n = length-packed s in

@@ -1,5 +1,5 @@
--- The smallest, the second and the largest of three, and the fifth smallest of nine, by comparisons. Whether each is at most v turns only on how many
--- of the values are, which leaves a few cases to go through. Assumes nothing.
+-- The smallest, the second and the largest of three, and the fifth smallest of nine, by comparisons. Whether each is at most v turns only
+-- on how many of the values are, which leaves a few cases to go through. Assumes nothing.
 use Prim.Native.Nat.{ℕ, zero, suc, min, max, _+_, _≤_, _<_}
 use mathlib.Core.Path.{_≡_, refl, sym, ap, _∙_}
 use mathlib.Core.Bool.{Bool, true, false, cond, Bool·beq, _&&_, _||_, false≢true}
@@ -86,15 +86,17 @@ units-of {a} {b} {c} p q r u =
     )
 
 module _ {a b c : Float} (U : IsUnit a × IsUnit b × IsUnit c) where
-  is-of-three : (x : Float) (j : ℕ) → IsUnit x → j < 3 → ((v : ℕ) → leb (key x) v ≡ ltb j (trues (leb (key a) v) (leb (key b) v) (leb (key c) v))) →
-      x ≡ ranked (a ∷ b ∷ c ∷ []) j
+  is-of-three : (x : Float) (j : ℕ) → IsUnit x → j < 3 →
+      ((v : ℕ) → leb (key x) v ≡ ltb j (trues (leb (key a) v) (leb (key b) v) (leb (key c) v))) → x ≡ ranked (a ∷ b ∷ c ∷ []) j
   is-of-three x j u h e = is-entry x (a ∷ b ∷ c ∷ []) j (u .fit) (U .0 .fit, (U .1 .fit, (U .2 .fit, tt))) h e
 
   pub smallest-is : lesser (lesser a b) c ≡ ranked (a ∷ b ∷ c ∷ []) 0
   smallest-is =
       let low = lesser-unit (U .0) (U .1) in
       is-of-three (lesser (lesser a b) c) 0 (lesser-unit low (U .2)) (omega arith)
-      (λ v. rw (lesser-bits low (U .2), lesser-bits (U .0) (U .1), leb-min, leb-min) (ways (leb (key a) v) (leb (key b) v) (leb (key c) v) .smallest))
+      (λ v.
+      rw (lesser-bits low (U .2), lesser-bits (U .0) (U .1), leb-min, leb-min)
+      (ways (leb (key a) v) (leb (key b) v) (leb (key c) v) .smallest))
 
   pub second-is : larger (lesser a b) (lesser (larger a b) c) ≡ ranked (a ∷ b ∷ c ∷ []) 1
   second-is =
@@ -109,7 +111,9 @@ module _ {a b c : Float} (U : IsUnit a × IsUnit b × IsUnit c) where
   largest-is =
       let high = larger-unit (U .0) (U .1) in
       is-of-three (larger (larger a b) c) 2 (larger-unit high (U .2)) (omega arith)
-      (λ v. rw (larger-bits high (U .2), larger-bits (U .0) (U .1), leb-max, leb-max) (ways (leb (key a) v) (leb (key b) v) (leb (key c) v) .largest))
+      (λ v.
+      rw (larger-bits high (U .2), larger-bits (U .0) (U .1), leb-max, leb-max)
+      (ways (leb (key a) v) (leb (key b) v) (leb (key c) v) .largest))
 
 -- ---- nine values
 
@@ -133,7 +137,9 @@ same false false e = refl
 abbrev chosen : ℕ → ℕ → ℕ → Bool
 chosen a b c =
     ltb 1
-    (trues (ltb 2 (trues (ltb 0 a) (ltb 0 b) (ltb 0 c))) (ltb 1 (trues (ltb 1 a) (ltb 1 b) (ltb 1 c))) (ltb 0 (trues (ltb 2 a) (ltb 2 b) (ltb 2 c))))
+    (trues (ltb 2 (trues (ltb 0 a) (ltb 0 b) (ltb 0 c)))
+    (ltb 1 (trues (ltb 1 a) (ltb 1 b) (ltb 1 c)))
+    (ltb 0 (trues (ltb 2 a) (ltb 2 b) (ltb 2 c))))
 
 abbrev right : ℕ → ℕ → ℕ → Bool
 right a b c = Bool·beq (chosen a b c) (ltb 4 (a + (b + c)))
@@ -187,7 +193,8 @@ module _ (x : ℕ → ℕ → Float) where
     pick-is j n h k = entry-each key P nan (ranks j) n (ranks-are j h) k
 
     pub finals-are : Each P finals
-    finals-are = (pick-is 0 2 (omega arith) (omega arith), (pick-is 1 1 (omega arith) (omega arith), (pick-is 2 0 (omega arith) (omega arith), tt)))
+    finals-are =
+        (pick-is 0 2 (omega arith) (omega arith), (pick-is 1 1 (omega arith) (omega arith), (pick-is 2 0 (omega arith) (omega arith), tt)))
 
   -- the second of these three is the fifth smallest of the nine
   pub fifth-is : ((u v : ℕ) → u < 3 → v < 3 → Fits (x u v)) → ranked finals 1 ≡ ranked (grid 3 3 x) 4

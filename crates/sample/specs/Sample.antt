@@ -1,5 +1,5 @@
 -- 01, "Cell sampling", and its refusals. All operations are binary32, in the order written.
-use Prim.Native.Nat.{ℕ, zero, suc, _+_, _*_, _/_, _%_}
+use Prim.Native.Nat.{ℕ, zero, suc, _*_, _/_, _%_}
 use mathlib.Core.Path.{_≡_}
 use mathlib.Core.Bool.{Bool, true, false, not, cond, _&&_, _||_}
 use mathlib.Core.List.{List, []}
@@ -52,7 +52,8 @@ mostNumber = 4096
 -- x, y, the corner or the offset is above that, or the size above its limit
 unfoldable pub numbersAbove : ℕ → ℕ → ℕ → ℕ → ℕ → ℕ → ℕ → Bool
 numbersAbove x y r₁ c₁ r₀ c₀ size =
-    ltb mostNumber x || ltb mostNumber y || ltb mostNumber r₁ || ltb mostNumber c₁ || ltb mostNumber r₀ || ltb mostNumber c₀ || ltb mostSize size
+    ltb mostNumber x || ltb mostNumber y || ltb mostNumber r₁ || ltb mostNumber c₁ || ltb mostNumber r₀ || ltb mostNumber c₀
+    || ltb mostSize size
 
 -- the answer where the planes are fit, for `room` entries of output
 unfoldable pub cellAnswer : Board → ℕ → ℕ → ℕ → ℕ → ℕ
@@ -71,11 +72,13 @@ sampleAnswer b planes x y size room =
     cond (eqb a 0) (cellAnswer b x y size room) a
 
 -- what a call answers, and what the output holds after it: the cell at its front; on a refusal nothing is written
-pub record SampleGives (b : Board) (planes : List Float) (x y size : ℕ) (before : List Float) (answer : ℕ) (after : List Float) : Type 0 where
+pub record SampleGives (b : Board) (planes : List Float) (x y size : ℕ) (before : List Float) (answer : ℕ) (after : List Float)
+    : Type 0 where
   pub answer-is : answer ≡ sampleAnswer b planes x y size (length before)
   pub out-is : AtFront (cond (eqb answer 0) (cell b planes x y size) []) before after
 
 -- the same where the planes are fit
-pub record CellGives (b : Board) (planes : List Float) (x y size : ℕ) (before : List Float) (answer : ℕ) (after : List Float) : Type 0 where
+pub record CellGives (b : Board) (planes : List Float) (x y size : ℕ) (before : List Float) (answer : ℕ) (after : List Float)
+    : Type 0 where
   pub answer-is : answer ≡ cellAnswer b x y size (length before)
   pub out-is : AtFront (cond (eqb answer 0) (cell b planes x y size) []) before after

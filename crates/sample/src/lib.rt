@@ -208,13 +208,7 @@ pub fn extra_save_cell(
 ) -> u32
     ensures { λ r. ⌜ SampleGives b (now (planes .entry)) x y size (now (out .entry)) r (now (out .exit)) ⌝ }
 {
-    let refusal = board::planes_answer(
-        Board::LEAST_PLANE_SIDE,
-        b.height,
-        b.width,
-        planes,
-        false,
-    );
+    let refusal = board::planes_answer(Board::LEAST_PLANE_SIDE, b.height, b.width, planes, false);
     if refusal != 0 {
         return refusal;
     }

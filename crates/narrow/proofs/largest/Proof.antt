@@ -14,7 +14,8 @@ larger-requires-2 c κs = search needs
 returns : tie.Need-returns
 returns c =
     let s = c .before .before in
-    c .larger2 .ensures ∙ rw (c .before .larger .ensures) (largest-is (units-of (s .good .0 .1) (s .good .1 .0 .1) (s .good .1 .1 .0 .1) (s .pre)))
+    c .larger2 .ensures
+    ∙ rw (c .before .larger .ensures) (largest-is (units-of (s .good .0 .1) (s .good .1 .0 .1) (s .good .1 .1 .0 .1) (s .pre)))
 
 pub largest-spec : {M : Type 1} → statement M
 largest-spec = tie.close (tie.spec larger-requires larger-requires-2 returns)

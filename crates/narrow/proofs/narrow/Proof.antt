@@ -30,8 +30,9 @@ small s = narrowed 3 (view (s .args .height) (s .args .width) (now (s .args .pla
 room : (s : tie.Start) → 3 * (s .args .height / 3 * (s .args .width / 3)) ≤ s .args .height * s .args .width
 room s = shrinks (s .args .height) (s .args .width)
 
-room-left : (c : tie.After-slice-known4) → let a = begun (at-laid (at-copied c .before)) .args in 3 * (a .height / 3 * (a .width / 3)) ≤ a .height * a .width
-room-left c = room (begun (at-laid (at-copied c .before)))
+room-now : (c : tie.After-slice-known4) → let a = begun (at-laid (at-copied c .before)) .args in
+    3 * (a .height / 3 * (a .width / 3)) ≤ a .height * a .width
+room-now c = room (begun (at-laid (at-copied c .before)))
 
 mul-n : tie.Need-mul-n
 mul-n c = omega (arith, room (at-start c))
@@ -55,13 +56,13 @@ copy-f32-requires : tie.Need-copy-f32-requires
 copy-f32-requires c κs = let r = room (begun (at-laid c)) in (omega arith, omega arith)
 
 mul-clear-f32 : tie.Need-mul-clear-f32
-mul-clear-f32 c = omega (arith, room-left c)
+mul-clear-f32 c = omega (arith, room-now c)
 
 sub-clear-f32 : tie.Need-sub-clear-f32
-sub-clear-f32 c = omega (arith, room-left c)
+sub-clear-f32 c = omega (arith, room-now c)
 
 part-clear-f32-start : tie.Need-part-clear-f32-start
-part-clear-f32-start c = omega (arith, room-left c)
+part-clear-f32-start c = omega (arith, room-now c)
 
 part-clear-f32-end : tie.Need-part-clear-f32-end
 part-clear-f32-end c = search needs

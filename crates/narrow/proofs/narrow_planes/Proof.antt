@@ -1,5 +1,5 @@
--- `narrow::narrow_planes` meets its contract. The invariant: the first r rows of the narrowed planes are there, and the rest is as it was.
--- What falls: the rows left.
+-- `narrow::narrow_planes` meets its contract. The invariant: the first r rows of the narrowed planes are there, and the rest is as it
+-- was. What falls: the rows left.
 use Prim.Native.Nat.{_+_, _-_, _*_, _/_, _≤_}
 use mathlib.Core.Path.{_≡_, refl}
 use native.Mathlib.Nat.{zero-mul, div-lt-iff-lt-mul, mod-lt}
@@ -19,7 +19,8 @@ use Rattle.narrow.proofs.narrow_planes.Tie as tie
 
 abbrev Inv-loop : tie.InvT-loop
 Inv-loop height width planes out₀ rows columns r₀ r-end out r =
-    (r ≤ 3 * (height / 3)) × (r-end ≡ 3 * (height / 3)) × AtFront (grid r (width / 3) (rowsOf (narrowed 3 (view height width planes)))) out₀ out
+    (r ≤ 3 * (height / 3)) × (r-end ≡ 3 * (height / 3))
+    × AtFront (grid r (width / 3) (rowsOf (narrowed 3 (view height width planes)))) out₀ out
 
 abbrev μ-loop : tie.MeasureT-loop
 μ-loop height width planes out₀ rows columns r₀ r-end out r = 3 * (height / 3) - r
@@ -30,11 +31,14 @@ mul-r-end c = search needs
 loop-holds : tie.Need-loop-holds Inv-loop μ-loop
 loop-holds c = (omega arith, refl, rw zero-mul front-none)
 
+-- the place that the others follow
+abbrev at-start : tie.At-loop Inv-loop μ-loop → tie.Start Inv-loop μ-loop
+at-start c = c .before .before .before
+
 -- the row lies within the room of one old plane
-place : (c : tie.In-loop Inv-loop μ-loop) →
-    c .before .loop .r * (c .before .before .before .before .args .width / 3) + c .before .before .before .before .args .width / 3
-    ≤ c .before .before .before .before .args .height * c .before .before .before .before .args .width
-place c = row-in (c .before .before .before .before .args .height) (c .before .before .before .before .args .width) (c .loop-test .taken)
+place : (c : tie.In-loop Inv-loop μ-loop) → let a = at-start (c .before) .args in
+    c .before .loop .r * (a .width / 3) + a .width / 3 ≤ a .height * a .width
+place c = let a = at-start (c .before) .args in row-in (a .height) (a .width) (c .loop-test .taken)
 
 mul-from : tie.Need-mul-from Inv-loop μ-loop
 mul-from c = omega (arith, place c)
@@ -59,13 +63,13 @@ part-narrow-row-end c = search needs
 
 narrow-row-requires : tie.Need-narrow-row-requires Inv-loop μ-loop
 narrow-row-requires c κs =
-    let a = c .before .before .before .before .before .args in
-    let out = c .before .before .loop .out in
-    let from = c .before .before .loop .r * (a .width / 3) in (
-      c .before .before .before .before .before .pre .0,
-      div-lt-iff-lt-mul {k = a .height / 3} {x = c .before .before .loop .r} {y = 3} (omega arith) .1 (c .before .loop-test .taken),
-      mod-lt (c .before .before .loop .r) (omega arith),
-      rw (mid-rest from out, length-drop) (omega (arith, place (c .before))),
+    let turn = c .before in
+    let r = turn .before .loop .r in
+    let start = at-start (turn .before) in (
+      start .pre .0,
+      div-lt-iff-lt-mul {k = start .args .height / 3} {x = r} {y = 3} (omega arith) .1 (turn .loop-test .taken),
+      mod-lt r (omega arith),
+      rw (mid-rest (r * (start .args .width / 3)) (turn .before .loop .out), length-drop) (omega (arith, place turn)),
     )
 
 add-r : tie.Need-add-r Inv-loop μ-loop
@@ -77,7 +81,7 @@ loop-less c = search needs
 loop-again : tie.Need-loop-again Inv-loop μ-loop
 loop-again c =
     let at = c .before .before .before .before .before in
-    let a = at .before .before .before .args in
+    let a = at-start at .args in
     let s = narrowed 3 (view (a .height) (a .width) (now (a .planes))) in
     (omega arith, refl, next-row s (at .loop .r) (at .loop .inv .2) (c .before .before .narrow-row .ensures))
 
@@ -86,7 +90,7 @@ same-length c = search needs
 
 returns : tie.Need-returns Inv-loop μ-loop
 returns c =
-    let a = c .before .before .before .before .args in
+    let a = at-start (c .before) .args in
     let r : c .before .loop .r ≡ 3 * (a .height / 3) = omega arith in
     rw (packed-rows (narrowed 3 (view (a .height) (a .width) (now (a .planes))))) (rw r at (c .before .loop .inv .2))
 

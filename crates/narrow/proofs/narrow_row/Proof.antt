@@ -1,5 +1,5 @@
--- `narrow::narrow_row` meets its contract. The invariant: the first j points of the row are there, and the rest is as it was. What falls: the
--- points left.
+-- `narrow::narrow_row` meets its contract. The invariant: the first j points of the row are there, and the rest is as it was. What falls:
+-- the points left.
 use Prim.Native.Nat.{_-_, _/_, _≤_, _<_}
 use mathlib.Core.Path.{_≡_, refl}
 use native.Mathlib.Omega.{arith}

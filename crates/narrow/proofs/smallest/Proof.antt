@@ -14,7 +14,8 @@ lesser-requires-2 c κs = search needs
 returns : tie.Need-returns
 returns c =
     let s = c .before .before in
-    c .lesser2 .ensures ∙ rw (c .before .lesser .ensures) (smallest-is (units-of (s .good .0 .1) (s .good .1 .0 .1) (s .good .1 .1 .0 .1) (s .pre)))
+    c .lesser2 .ensures
+    ∙ rw (c .before .lesser .ensures) (smallest-is (units-of (s .good .0 .1) (s .good .1 .0 .1) (s .good .1 .1 .0 .1) (s .pre)))
 
 pub smallest-spec : {M : Type 1} → statement M
 smallest-spec = tie.close (tie.spec lesser-requires lesser-requires-2 returns)

@@ -1,4 +1,5 @@
--- `sample::all_below` meets its contract. The loop's invariant: the flag is the rule's answer over the places passed. What falls: the places left.
+-- `sample::all_below` meets its contract. The loop's invariant: the flag is the rule's answer over the places passed. What falls: the
+-- places left.
 use Prim.Native.Nat.{_-_, _≤_}
 use mathlib.Core.Path.{_≡_}
 use native.Mathlib.Numerals.{add-one}

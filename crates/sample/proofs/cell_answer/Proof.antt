@@ -1,4 +1,5 @@
--- `sample::cell_answer` meets its contract: each test is the rule's, in its order, and what was passed bounds the numbers that the places are made of.
+-- `sample::cell_answer` meets its contract: each test is the rule's, in its order, and what was passed bounds the numbers that the
+-- places are made of.
 use mathlib.Core.Path.{_≡_, sym, _∙_}
 use mathlib.Core.Bool.{false, cond, _&&_, _||_}
 use native.Mathlib.Omega.{arith}
@@ -8,23 +9,34 @@ use Rattle.sample.proofs.Answers.{NumbersIn, numbers-in, decided}
 use Rattle.sample.proofs.cell_answer.Statement.{statement}
 use Rattle.sample.proofs.cell_answer.Tie as tie
 
--- what the tests that were passed tell
-pitches : (c : tie.Else1) → let b = c .before .before .before .args .b in (pitchOutside (b .pixelr) || pitchOutside (b .pixelc)) ≡ false
+-- the places that the others follow: the start, and the tests that were passed
+abbrev at-start : tie.Else1 → tie.Start
+at-start c = c .before .before .before
+
+abbrev at-pitches : tie.Else2 → tie.Else1
+at-pitches c = c .before .before
+
+abbrev at-numbers : tie.Else3 → tie.Else2
+at-numbers c = c .before
+
+-- what they tell
+pitches : (c : tie.Else1) → let b = at-start c .args .b in (pitchOutside (b .pixelr) || pitchOutside (b .pixelc)) ≡ false
 pitches c = rw (sym (c .before .before .pitch-outside .ensures), sym (c .before .pitch-outside2 .ensures)) (c .if1 .left)
 
-above : (c : tie.Else2) → let s = c .before .before .before .before .before .args in let b = s .b in
+above : (c : tie.Else2) → let s = at-start (at-pitches c) .args in let b = s .b in
     numbersAbove (s .x) (s .y) (b .«r_1») (b .«c_1») (b .r0) (b .c0) (s .size) ≡ false
 above c = sym (c .before .numbers-above .ensures) ∙ c .if2 .left
 
-numbers : (c : tie.Else2) → let s = c .before .before .before .before .before .args in let b = s .b in
+numbers : (c : tie.Else2) → let s = at-start (at-pitches c) .args in let b = s .b in
     NumbersIn (s .x) (s .y) (b .«r_1») (b .«c_1») (b .r0) (b .c0) (s .size)
 numbers c = numbers-in _ _ _ _ _ _ _ (above c)
 
-places : (c : tie.After-inside2) → let s = c .before .before .before .before .before .before .before .before .args in
+places : (c : tie.After-inside2) → let s = at-start (at-pitches (at-numbers (c .before .before))) .args in
     cellAnswer (s .b) (s .x) (s .y) (s .size) (s .room) ≡ cond (c .before .inside .result && c .inside2 .result) 0 12
 places c =
-    let at = c .before .before .before in
-    rw (c .before .inside .ensures, c .inside2 .ensures) (decided _ _ _ _ _ (pitches (at .before .before)) (above at) (c .before .before .if3 .left))
+    let at = at-numbers (c .before .before) in
+    rw (c .before .inside .ensures, c .inside2 .ensures)
+    (decided _ _ _ _ _ (pitches (at-pitches at)) (above at) (c .before .before .if3 .left))
 
 pitch-outside-requires : tie.Need-pitch-outside-requires
 pitch-outside-requires c κs = tt

@@ -20,21 +20,34 @@ Inv-loop b planes x y size out₀ rows columns k₀ out k = (k ≤ 3) × AtFront
 abbrev μ-loop : tie.MeasureT-loop
 μ-loop b planes x y size out₀ rows columns k₀ out k = 3 - k
 
--- what the answer 0 tells, and the places
-fits : (c : tie.After-slice-known Inv-loop μ-loop) → let s = c .before .before .args in
-    Fit (s .b) (s .x) (s .y) (s .size) (length (s .out .now))
-fits c = fit _ _ _ _ _ (c .before .before .pre .1)
+-- the places that the others follow: the start, and the places of the cell
+abbrev at-start : tie.After-slice-known Inv-loop μ-loop → tie.Start Inv-loop μ-loop
+at-start c = c .before .before
 
-placed : (c : tie.After-places2 Inv-loop μ-loop) → let s = c .before .before .before .before .args in
+abbrev at-known : tie.After-places2 Inv-loop μ-loop → tie.After-slice-known Inv-loop μ-loop
+at-known c = c .before .before
+
+abbrev at-places : tie.At-loop Inv-loop μ-loop → tie.After-places2 Inv-loop μ-loop
+at-places c = c .before
+
+abbrev begun : tie.At-loop Inv-loop μ-loop → tie.Start Inv-loop μ-loop
+begun c = at-start (at-known (at-places c))
+
+-- what the answer 0 tells, and the places
+fits : (c : tie.After-slice-known Inv-loop μ-loop) → let s = at-start c .args in
+    Fit (s .b) (s .x) (s .y) (s .size) (length (s .out .now))
+fits c = fit _ _ _ _ _ (at-start c .pre .1)
+
+placed : (c : tie.After-places2 Inv-loop μ-loop) → let s = at-start (at-known c) .args in
     PlacesAre (s .b) (s .x) (s .y) (s .size) (length (s .out .now)) (c .before .places .result) (c .places2 .result)
-placed c = record { fit = fits (c .before .before); rows-are = c .before .places .ensures; columns-are = c .places2 .ensures }
+placed c = record { fit = fits (at-known c); rows-are = c .before .places .ensures; columns-are = c .places2 .ensures }
 
 -- a plane has its place in the output
-room : (c : tie.In-loop Inv-loop μ-loop) → let s = c .before .before .before .before .before .before .args in
+room : (c : tie.In-loop Inv-loop μ-loop) → let s = begun (c .before) .args in
     c .before .loop .k * (s .size * s .size) + s .size * s .size ≤ length (s .out .now)
 room c =
-    let n = c .before .before .before .before .before .before .args .size in
-    omega (arith, row-fits _ _ (n * n) (c .loop-test .taken), placed (c .before .before) .fit .output)
+    let n = begun (c .before) .args .size in
+    omega (arith, row-fits _ _ (n * n) (c .loop-test .taken), placed (at-places (c .before)) .fit .output)
 
 places-requires : tie.Need-places-requires Inv-loop μ-loop
 places-requires c κs = fits c .numbers .down
@@ -50,8 +63,8 @@ mul-copy-plane c = omega arith
 
 mul-copy-plane-2 : tie.Need-mul-copy-plane-2 Inv-loop μ-loop
 mul-copy-plane-2 c =
-    let s = c .before .before .before .before .before .before .before .args .b in
-    omega (arith, row-fits _ _ (s .height * s .width) (c .before .loop-test .taken))
+    let b = begun (c .before .before) .args .b in
+    omega (arith, row-fits _ _ (b .height * b .width) (c .before .loop-test .taken))
 
 mul-copy-plane-3 : tie.Need-mul-copy-plane-3 Inv-loop μ-loop
 mul-copy-plane-3 c = omega (arith, room (c .before .before .before .before))
@@ -61,11 +74,11 @@ mul-copy-plane-4 c = omega (arith, room (c .before .before .before .before))
 
 copy-plane-requires : tie.Need-copy-plane-requires Inv-loop μ-loop
 copy-plane-requires c κs =
-    let at = c .before .before .before .before in
-    let s = at .before .before .before .before .before .before in
-    let here = placed (at .before .before) in (
-      (here .fit .numbers .down .size-in, omega (arith, room at)),
-      λ i j i-in j-in. place-in (s .args .planes .now) here (at .before .loop .k) i j (s .pre .0) (omega arith) i-in j-in,
+    let turn = c .before .before .before .before in
+    let s = begun (turn .before) in
+    let here = placed (at-places (turn .before)) in (
+      (here .fit .numbers .down .size-in, omega (arith, room turn)),
+      λ i j i-in j-in. place-in (s .args .planes .now) here (turn .before .loop .k) i j (s .pre .0) (omega arith) i-in j-in,
     )
 
 add-k : tie.Need-add-k Inv-loop μ-loop
@@ -77,10 +90,10 @@ loop-less c = search needs
 loop-again : tie.Need-loop-again Inv-loop μ-loop
 loop-again c =
     let at = c .before .before .before .before .before .before .before .before in
-    let s = at .before .before .before .before .before .args in (
+    let s = begun at .args in (
       omega arith,
       front-row (cellPlane (s .b) (s .planes .now) (s .x) (s .y) (s .size)) (at .loop .k) (s .size * s .size) (at .loop .inv .1)
-          (rw (plane-is (s .planes .now) (placed (at .before)) (at .loop .k)) at (c .before .before .copy-plane .ensures)),
+          (rw (plane-is (s .planes .now) (placed (at-places at)) (at .loop .k)) at (c .before .before .copy-plane .ensures)),
     )
 
 same-length : tie.Need-same-length Inv-loop μ-loop

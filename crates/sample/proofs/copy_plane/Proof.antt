@@ -21,14 +21,18 @@ Inv-loop planes from width rows columns size out₀ to i₀ out i =
 abbrev μ-loop : tie.MeasureT-loop
 μ-loop planes from width rows columns size out₀ to i₀ out i = size - i
 
+-- the place that the others follow
+abbrev at-start : tie.At-loop Inv-loop μ-loop → tie.Start Inv-loop μ-loop
+at-start c = c .before .before .before
+
 -- the turn's row has its place in the planes, and in the output
-read : (c : tie.In-loop Inv-loop μ-loop) → let s = c .before .before .before .before .args in
+read : (c : tie.In-loop Inv-loop μ-loop) → let s = at-start (c .before) .args in
     s .from + getD (s .rows .now) (c .before .loop .i) 0 * s .width < length (s .planes .now)
 read c =
     let i = c .before .loop .i in
-    omega (arith, c .before .before .before .before .pre .1 i i (c .loop-test .taken) (c .loop-test .taken))
+    omega (arith, at-start (c .before) .pre .1 i i (c .loop-test .taken) (c .loop-test .taken))
 
-room : (c : tie.In-loop Inv-loop μ-loop) → let s = c .before .before .before .before .args in
+room : (c : tie.In-loop Inv-loop μ-loop) → let s = at-start (c .before) .args in
     c .before .loop .i * s .size + s .size ≤ s .size * s .size
 room c = row-fits _ _ _ (c .loop-test .taken)
 
@@ -55,9 +59,10 @@ add-copy-row-2 c = omega (arith, room (c .before .before))
 
 copy-row-requires : tie.Need-copy-row-requires Inv-loop μ-loop
 copy-row-requires c κs =
-    let s = c .before .before .before .before .before .before in (
-      (s .pre .0 .0, omega (arith, room (c .before .before))),
-      λ j b. s .pre .1 (c .before .before .before .loop .i) j (c .before .before .loop-test .taken) b,
+    let turn = c .before .before in
+    let s = at-start (turn .before) in (
+      (s .pre .0 .0, omega (arith, room turn)),
+      λ j b. s .pre .1 (turn .before .loop .i) j (turn .loop-test .taken) b,
     )
 
 add-i : tie.Need-add-i Inv-loop μ-loop
@@ -70,7 +75,7 @@ loop-again : tie.Need-loop-again Inv-loop μ-loop
 loop-again c =
     let turn = c .before .before .before .before .before in
     let at = turn .before .loop in
-    let size = turn .before .before .before .before .args .size in (
+    let size = at-start (turn .before) .args .size in (
       omega arith,
       placed-row _ _ (at .i) size (at .inv .1) (c .before .before .copy-row .ensures) refl (omega (arith, room turn))
           (λ j b. rw (digits-div (at .i) b, digits-mod (at .i) b)),
@@ -81,7 +86,7 @@ same-length c = search needs
 
 returns : tie.Need-returns Inv-loop μ-loop
 returns c =
-    let e : c .before .loop .i ≡ c .before .before .before .before .args .size = omega arith in
+    let e : c .before .loop .i ≡ at-start (c .before) .args .size = omega arith in
     rw e at (c .before .loop .inv .1)
 
 pub copy-plane-spec : {M : Type 1} → statement M

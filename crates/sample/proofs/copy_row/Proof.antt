@@ -1,4 +1,5 @@
--- `sample::copy_row` meets its contract. The loop's invariant: the values at the columns passed stand from `to` on. What falls: the columns left.
+-- `sample::copy_row` meets its contract. The loop's invariant: the values at the columns passed stand from `to` on. What falls: the
+-- columns left.
 use Prim.Native.Nat.{_+_, _-_, _≤_, _<_}
 use mathlib.Core.Path.{_≡_, refl}
 use native.Mathlib.Omega.{arith}

@@ -1,4 +1,5 @@
--- `sample::extra_save_cell` meets its contract: planes that are not fit are refused by their own answer, and `cell_of` answers for the others.
+-- `sample::extra_save_cell` meets its contract: planes that are not fit are refused by their own answer, and `cell_of` answers for the
+-- others.
 use mathlib.Core.Path.{_≡_, sym, _∙_}
 use mathlib.Core.Bool.{false}
 use denote.Ref.{now}
