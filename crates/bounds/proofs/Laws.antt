@@ -7,7 +7,7 @@ use Rattle.bounds.specs.declared.Beside.the-variants.{Ahead, Before}
 use Rattle.board.specs.declared.Bounds.{Bounds}
 use Rattle.bounds.specs.declared.Way.the-variants.{Near, Far}
 use Rattle.lists.specs.Picture.{flip}
-use Rattle.bounds.specs.Bounds.{boundsOf, widen, Within}
+use Rattle.bounds.specs.Bounds.{boundsOf, widen, BoundsIn}
 use Rattle.bounds.specs.Scan.{bound, place}
 use Rattle.bounds.specs.Widen.{widened, sumAt}
 use Rattle.bounds.proofs.Scans.{scan-le}
@@ -20,7 +20,7 @@ pub record Middle (side a b : ℕ) : Type 0 where
   pub end : b < side
 
 -- of `side` places, those from a to b are in a' to b'
-record Holds (side a b a' b' : ℕ) : Type 0 where
+record Encloses (side a b a' b' : ℕ) : Type 0 where
   low : a' ≤ a
   high : b ≤ b'
   end : b' < side
@@ -34,9 +34,10 @@ module _ (E : ℕ → ℕ → Bool) (across : ℕ) {along : ℕ} where
       let f = scan-le (λ p m. E p (far m)) (across / 3) (2 * across / 3) (far (along / 2)) (far (along / 2)) (across / 3) in
       record { low = n; high = omega (arith, f); end = omega arith }
 
-  widened-holds : (near : Beside) {a b : ℕ} → b < along → Holds along a b (widened near Near E across along a) (widened Ahead Far E across along b)
+  widened-encloses : (near : Beside) {a b : ℕ} → b < along →
+      Encloses along a b (widened near Near E across along a) (widened Ahead Far E across along b)
   unfolding widened
-  widened-holds near {a} {b} h =
+  widened-encloses near {a} {b} h =
       let far = place Far along in
       let n = lowered-le (sumAt near E across) a in
       let f = lowered-le (sumAt Ahead (λ p m. E p (far m)) across) (far b) in
@@ -51,7 +52,7 @@ pub around : (E : ℕ → ℕ → Bool) {row column : ℕ} → 0 < row → 0 < c
 around E {row} {column} h k = record { rows = bounds-middle (flip E) column h; columns = bounds-middle E row k }
 
 -- such bounds may be widened
-pub within : {row column : ℕ} {b : Bounds} → Around row column b → Within row column b
+pub within : {row column : ℕ} {b : Bounds} → Around row column b → BoundsIn row column b
 within a = record { «r_1» = omega arith; «r_2» = omega arith; «c_1» = omega arith; «c_2» = omega arith }
 
 -- spans of at least 4, inside the picture
@@ -62,9 +63,9 @@ pub record Wide (row column : ℕ) (b : Bounds) : Type 0 where
   pub column-end : b .«c_2» < column
 
 -- bounds that need no narrowing are wide after the widening
-pub wide : (E : ℕ → ℕ → Bool) {row column : ℕ} {b : Bounds} → 9 ≤ row → 9 ≤ column → Within row column b →
+pub wide : (E : ℕ → ℕ → Bool) {row column : ℕ} {b : Bounds} → 9 ≤ row → 9 ≤ column → BoundsIn row column b →
     row / 3 < b .«r_2» - b .«r_1» → column / 3 < b .«c_2» - b .«c_1» → Wide row column (widen E row column b)
 wide E {row} {column} {b} h k w r c =
-    let rows = widened-holds (flip E) column Ahead {a = b .«r_1»} (w .«r_2») in
-    let columns = widened-holds E row Before {a = b .«c_1»} (w .«c_2») in
+    let rows = widened-encloses (flip E) column Ahead {a = b .«r_1»} (w .«r_2») in
+    let columns = widened-encloses E row Before {a = b .«c_1»} (w .«c_2») in
     record { rows = omega arith; row-end = rows .end; columns = omega arith; column-end = columns .end }

@@ -27,7 +27,7 @@ widen E row column b =
     }
 
 -- bounds inside a picture
-pub record Within (row column : ℕ) (b : Bounds) : Type 0 where
+pub record BoundsIn (row column : ℕ) (b : Bounds) : Type 0 where
   pub «r_1» : b .«r_1» < row
   pub «r_2» : b .«r_2» < row
   pub «c_1» : b .«c_1» < column

@@ -6,7 +6,7 @@ ghost use lib.Dec.{leb};
 ghost use lib.ListN.{length};
 ghost use Rattle.lists.specs.Picture.{points};
 ghost use Rattle.bounds.specs.Bounds as Spec;
-ghost use Rattle.bounds.specs.Bounds.{boundsOf, Within};
+ghost use Rattle.bounds.specs.Bounds.{boundsOf, BoundsIn};
 ghost use Rattle.bounds.specs.Scan as Scan;
 ghost use Rattle.bounds.specs.Scan.{skips, move, place, bound};
 ghost use Rattle.bounds.specs.View.{seen, low, high, Lies, columnsOf, rowsOf};
@@ -31,7 +31,8 @@ enum Beside {
     Before,
 }
 
-// A picture in the edge bytes, seen along one way: `across` rows and `along` columns, with the point in row p and column q at p * down + q * right.
+// A picture in the edge bytes, seen along one way: `across` rows and `along` columns, with the point in row p and column q at
+// p * down + q * right.
 struct View {
     way: Way,
     across: usize,
@@ -233,10 +234,11 @@ fn widened_from(e: &[u8], v: View, beside: Beside, c: usize) -> usize
     place_of(v, m)
 }
 
-// Bounds widened in an edge picture whose rows are `stride` bytes long (01, "Locating"). After a narrowing row and column are those of the last
-// picture, and the edges those of the first.
+// Bounds widened in an edge picture whose rows are `stride` bytes long (01, "Locating"). After a narrowing row and column are those of
+// the last picture, and the edges those of the first.
 pub fn widen(edges: &[u8], stride: usize, row: usize, column: usize, b: Bounds) -> Bounds
-    requires { ⌜ (3 ≤ row) × (row ≤ 4094) × (3 ≤ column) × (column ≤ 4094) × (column ≤ stride) × (row * stride ≤ length (now edges)) × Within row column b ⌝ }
+    requires { ⌜ (3 ≤ row) × (row ≤ 4094) × (3 ≤ column) × (column ≤ 4094) × (column ≤ stride) × (row * stride ≤ length (now edges))
+        × BoundsIn row column b ⌝ }
     ensures { λ r. ⌜ r ≡ Spec.widen (points stride 1 (now (edges .entry))) row column b ⌝ }
 {
     Bounds {

@@ -1,5 +1,5 @@
-// One strip (01, "Path scores"): five lanes walked down row by row, and the score of a place. Its promises rest on specs/Score and specs/Walk.
-// Laws for callers: proofs/Walks (a score is that of the best walk), proofs/States (one row more, and what the target lane holds at the end).
+// One strip (01, "Path scores"): five lanes walked down row by row, and the score of a place. The promises rest on specs/Score and
+// specs/Walk. Laws for callers: proofs/Walks (a score is that of the best walk), proofs/States (one row more, and the target lane at the end).
 // A lane's state is 5 and the steps so far, less the least cost: a set point adds 1, a sideways move takes 1 off, and none falls below 1.
 ghost use mathlib.Core.Path.{_≡_};
 ghost use Prim.Native.Nat.{ℕ, _≤_, _<_, _+_, _*_, _-_, max};

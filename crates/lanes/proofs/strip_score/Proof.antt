@@ -19,6 +19,10 @@ Inv-loop e down across from to c k v₀ steps t₀ v t =
 abbrev μ-loop : tie.MeasureT-loop
 μ-loop e down across from to c k v₀ steps t₀ v t = steps - t
 
+-- the places that the others follow
+abbrev at-start : tie.At-loop Inv-loop μ-loop → tie.Start Inv-loop μ-loop
+at-start c = c .before .before .before
+
 start-requires : tie.Need-start-requires Inv-loop μ-loop
 start-requires c κs = search needs
 
@@ -29,10 +33,10 @@ loop-holds : tie.Need-loop-holds Inv-loop μ-loop
 loop-holds c = search needs
 
 place : (c : tie.In-loop Inv-loop μ-loop) →
-    let a = c .before .before .before .before .args in
+    let a = at-start (c .before) .args in
     (a .from + (c .before .loop .t + 1)) * a .down + a .c * a .across + 4 * a .across < length (now (a .e))
 place c =
-    let p = c .before .before .before .before .pre in
+    let p = at-start (c .before) .pre in
     let l = c .before .loop in
     row-in _ _ _ _ _ _ _ (rw (l .inv .1) at (c .loop-test .taken)) (p .2)
 
@@ -52,7 +56,7 @@ add-advanced-3 : tie.Need-add-advanced-3 Inv-loop μ-loop
 add-advanced-3 c = omega (arith, place c)
 
 advanced-requires : tie.Need-advanced-requires Inv-loop μ-loop
-advanced-requires c κs = (place c, c .before .before .before .before .pre .3, omega arith)
+advanced-requires c κs = (place c, at-start (c .before) .pre .3, omega arith)
 
 add-t : tie.Need-add-t Inv-loop μ-loop
 add-t c = search needs
@@ -62,20 +66,21 @@ loop-less c = search needs
 
 loop-again : tie.Need-loop-again Inv-loop μ-loop
 loop-again c =
-    let a = c .before .before .before .before .before .args in
     let l = c .before .before .loop in
-    let k = c .before .before .before .before .before .pre .4 in
+    let a = at-start (c .before .before) .args in
+    let k = at-start (c .before .before) .pre .4 in
     (omega arith, l .inv .1, row-more (now (a .e)) _ _ _ _ _ (l .t) _ _ _ k refl (l .inv .2) (c .advanced .ensures))
 
 lane-requires : tie.Need-lane-requires Inv-loop μ-loop
 lane-requires c κs = search needs
 
 last : (c : tie.After-lane Inv-loop μ-loop) →
-    let a = c .before .before .before .before .before .args in
+    let a = at-start (c .before .before) .args in
     (5 ≤ c .lane .result) × (c .lane .result - 5 ≡ score (points (a .down) (a .across) (now (a .e))) (a .from) (a .to) (at (a .c) (a .k)))
 last c =
     let l = c .before .before .loop in
-    let t : l .t ≡ c .before .before .before .before .before .args .to - c .before .before .before .before .before .args .from = omega arith in
+    let a = at-start (c .before .before) .args in
+    let t : l .t ≡ a .to - a .from = omega arith in
     lane-score _ _ _ _ _ (rw t at (c .lane .ensures (l .t + 5) _ (l .inv .2)))
 
 above-requires : tie.Need-above-requires Inv-loop μ-loop

@@ -11,6 +11,13 @@ use borrow.Author.Needs.{needs}
 use Rattle.strips.proofs.band_scores.Statement.{statement}
 use Rattle.strips.proofs.band_scores.Tie as tie
 
+-- the places that the others follow
+abbrev at-start : tie.After-turn → tie.Start
+at-start c = c .before .before .before .before .before
+
+abbrev at-turn : tie.After-sweep-scores-arg → tie.After-turn
+at-turn c = c .before .before .before
+
 sub-n : tie.Need-sub-n
 sub-n c = search needs
 
@@ -36,15 +43,15 @@ slice-reshare-prefix-sweep-scores : tie.Need-slice-reshare-prefix-sweep-scores
 slice-reshare-prefix-sweep-scores c = search needs
 
 slice-aggregate-sweep-scores : tie.Need-slice-aggregate-sweep-scores
-slice-aggregate-sweep-scores c = sym (length-take-le _ _ (omega (arith, c .before .before .before .turn .ensures .len)))
+slice-aggregate-sweep-scores c = sym (length-take-le _ _ (omega (arith, at-turn c .turn .ensures .len)))
 
 sub-sweep-scores : tie.Need-sub-sweep-scores
 sub-sweep-scores c = search needs
 
 sweep-scores-requires : tie.Need-sweep-scores-requires
 sweep-scores-requires c κs =
-    let u = c .before .before .before .before .turn .ensures in
-    let p = c .before .before .before .before .before .before .before .before .before .pre in (
+    let u = at-turn (c .before) .turn .ensures in
+    let p = at-start (at-turn (c .before)) .pre in (
       omega arith,
       omega arith,
       omega arith,
@@ -60,11 +67,13 @@ same-length-2 c = search needs
 
 returns : tie.Need-returns
 returns c =
-    let a = c .before .before .before .before .before .before .before .before .before .before .before .before .args in
-    let u = c .before .before .before .before .before .before .before .turn .ensures in
+    let swept = c .before .before in
+    let turn = at-turn (swept .before .before) in
+    let a = at-start turn .args in
+    let u = turn .turn .ensures in
     let n = a .to - a .from + 1 in
     let b = length (now (a .out)) + 4 in
-    c .before .before .sweep-scores .ensures
+    swept .sweep-scores .ensures
     ∙ tab-same (length (now (a .out))) _ _
     (λ i h. turned-score (now (a .e)) (a .r) (a .stride) (a .from) n b _ _ u (a .to) (omega arith) i (omega arith))
 

@@ -19,6 +19,13 @@ Inv-loop st out₀ i₀ i-end out i =
 abbrev μ-loop : tie.MeasureT-loop
 μ-loop st out₀ i₀ i-end out i = length out₀ - i
 
+-- the places that the others follow
+abbrev at-start : tie.At-loop Inv-loop μ-loop → tie.Start Inv-loop μ-loop
+at-start c = c .before .before
+
+abbrev at-loop : tie.After-above-arg Inv-loop μ-loop → tie.At-loop Inv-loop μ-loop
+at-loop c = c .before .before
+
 loop-holds : tie.Need-loop-holds Inv-loop μ-loop
 loop-holds c = (omega arith, refl, front-none)
 
@@ -32,7 +39,7 @@ element-copy-out-above : tie.Need-element-copy-out-above Inv-loop μ-loop
 element-copy-out-above c = search needs
 
 above-requires : tie.Need-above-requires Inv-loop μ-loop
-above-requires c κs = c .before .before .before .before .pre .1 _ (omega arith)
+above-requires c κs = at-start (at-loop c) .pre .1 _ (omega arith)
 
 mul-out : tie.Need-mul-out Inv-loop μ-loop
 mul-out c = search needs
@@ -47,7 +54,7 @@ loop-less : tie.Need-loop-less Inv-loop μ-loop
 loop-less c = search needs
 
 loop-again : tie.Need-loop-again Inv-loop μ-loop
-loop-again c = (omega arith, refl, front-more _ _ (c .before .before .before .loop .inv .2) (omega arith) (c .above .ensures))
+loop-again c = (omega arith, refl, front-more _ _ (at-loop (c .before) .loop .inv .2) (omega arith) (c .above .ensures))
 
 same-length : tie.Need-same-length Inv-loop μ-loop
 same-length c = search needs
@@ -55,7 +62,7 @@ same-length c = search needs
 returns : tie.Need-returns Inv-loop μ-loop
 returns c =
     let l = c .before .loop in
-    let e : l .i ≡ length (now (c .before .before .before .args .out)) = omega arith in
+    let e : l .i ≡ length (now (at-start (c .before) .args .out)) = omega arith in
     front-all (rw e at (l .inv .2)) (length-tabFrom 0 _ _)
 
 pub middle-lanes-spec : {M : Type 1} → statement M

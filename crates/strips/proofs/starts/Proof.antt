@@ -15,6 +15,10 @@ Inv-loop st₀ m i₀ st i = (i ≤ m) × Partly (λ j v. Unit) (λ j v. LanesHo
 abbrev μ-loop : tie.MeasureT-loop
 μ-loop st₀ m i₀ st i = m - i
 
+-- the places that the others follow
+abbrev at-loop : tie.After-start Inv-loop μ-loop → tie.At-loop Inv-loop μ-loop
+at-loop c = c .before .before .before
+
 loop-holds : tie.Need-loop-holds Inv-loop μ-loop
 loop-holds c = (omega arith, record { len = c .pre .1; new = λ j l. absurd (not-suc-le-zero l); old = λ j a b. tt })
 
@@ -22,7 +26,7 @@ start-requires : tie.Need-start-requires Inv-loop μ-loop
 start-requires c κs = search needs
 
 put-requires : tie.Need-put-requires Inv-loop μ-loop
-put-requires c κs = (omega arith, c .before .before .before .loop .inv .1 .len)
+put-requires c κs = (omega arith, at-loop c .loop .inv .1 .len)
 
 add-i : tie.Need-add-i Inv-loop μ-loop
 add-i c = search needs
@@ -32,8 +36,7 @@ loop-less c = search needs
 
 loop-again : tie.Need-loop-again Inv-loop μ-loop
 loop-again c =
-    let l = c .before .before .before .before .loop in
-    (omega arith, partly-more (l .inv .1) (omega arith) (omega arith) (c .put .ensures) (c .before .start .ensures))
+    (omega arith, partly-more (at-loop (c .before) .loop .inv .1) (omega arith) (omega arith) (c .put .ensures) (c .before .start .ensures))
 
 returns : tie.Need-returns Inv-loop μ-loop
 returns c E from k = record { len = c .before .loop .inv .1 .len; strip = λ j l. c .before .loop .inv .1 .new j (omega arith) }

@@ -15,14 +15,21 @@ Inv-loop e stride from steps c m st₀ t₀ st t = (t ≤ steps) × Swept (point
 abbrev μ-loop : tie.MeasureT-loop
 μ-loop e stride from steps c m st₀ t₀ st t = steps - t
 
+-- the places that the others follow
+abbrev at-start : tie.At-loop Inv-loop μ-loop → tie.Start Inv-loop μ-loop
+at-start c = c .before .before
+
+abbrev at-loop : tie.After-sweep-row-arg Inv-loop μ-loop → tie.At-loop Inv-loop μ-loop
+at-loop c = c .before .before
+
 loop-holds : tie.Need-loop-holds Inv-loop μ-loop
 loop-holds c = (omega arith, c .before .pre .4)
 
 sweep-row-requires : tie.Need-sweep-row-requires Inv-loop μ-loop
 sweep-row-requires c κs =
-    let a = c .before .before .before .before .args in
-    let p = c .before .before .before .before .pre in
-    let l = c .before .before .loop in
+    let a = at-start (at-loop c) .args in
+    let p = at-start (at-loop c) .pre in
+    let l = at-loop c .loop in
     let row : a .from + (l .t + 1) ≤ a .from + a .steps = omega arith in
     (omega arith, omega arith, omega (arith, mul-le-mul-right (a .stride) row), p .3, l .inv .1)
 
@@ -37,7 +44,7 @@ loop-again c = (omega arith, c .sweep-row .ensures)
 
 returns : tie.Need-returns Inv-loop μ-loop
 returns c =
-    let e : c .before .loop .t ≡ c .before .before .before .args .steps = omega arith in
+    let e : c .before .loop .t ≡ at-start (c .before) .args .steps = omega arith in
     rw e at (c .before .loop .inv .1)
 
 pub sweep-spec : {M : Type 1} → statement M

@@ -24,6 +24,16 @@ Inv-loop e stride from t c m st₀ o i₀ st i =
 abbrev μ-loop : tie.MeasureT-loop
 μ-loop e stride from t c m st₀ o i₀ st i = m - i
 
+-- the places that the others follow
+abbrev at-start : tie.At-loop Inv-loop μ-loop → tie.Start Inv-loop μ-loop
+at-start c = c .before .before
+
+abbrev at-loop : tie.After-lanes-at-arg Inv-loop μ-loop → tie.At-loop Inv-loop μ-loop
+at-loop c = c .before .before
+
+abbrev at-lanes : tie.After-put Inv-loop μ-loop → tie.After-lanes-at Inv-loop μ-loop
+at-lanes c = c .before .before .before
+
 add-o : tie.Need-add-o Inv-loop μ-loop
 add-o c = search needs
 
@@ -48,15 +58,15 @@ lanes-at-requires : tie.Need-lanes-at-requires Inv-loop μ-loop
 lanes-at-requires c κs = search needs
 
 here : (c : tie.After-lanes-at Inv-loop μ-loop) →
-    let a = c .before .before .before .before .before .args in
-    Walked (points (a .stride) 1 (now (a .e))) (a .from) (at (a .c + c .before .before .before .loop .i) 2) (a .t) (c .lanes-at .result)
-here c = let l = c .before .before .before .loop in rw (c .lanes-at .ensures) (l .inv .2 .old (l .i) (omega arith) (omega arith))
+    let a = at-start (at-loop (c .before)) .args in
+    Walked (points (a .stride) 1 (now (a .e))) (a .from) (at (a .c + at-loop (c .before) .loop .i) 2) (a .t) (c .lanes-at .result)
+here c = let l = at-loop (c .before) .loop in rw (c .lanes-at .ensures) (l .inv .2 .old (l .i) (omega arith) (omega arith))
 
 advanced-requires : tie.Need-advanced-requires Inv-loop μ-loop
-advanced-requires c κs = let h = here c in (omega arith, c .before .before .before .before .before .pre .3, omega arith)
+advanced-requires c κs = let h = here c in (omega arith, at-start (at-loop (c .before)) .pre .3, omega arith)
 
 put-requires : tie.Need-put-requires Inv-loop μ-loop
-put-requires c κs = (omega arith, c .before .before .before .before .before .loop .inv .2 .len)
+put-requires c κs = (omega arith, at-loop (c .before .before .before) .loop .inv .2 .len)
 
 add-i : tie.Need-add-i Inv-loop μ-loop
 add-i c = search needs
@@ -66,9 +76,10 @@ loop-less c = search needs
 
 loop-again : tie.Need-loop-again Inv-loop μ-loop
 loop-again c =
-    let a = c .before .before .before .before .before .before .before .before .args in
-    let l = c .before .before .before .before .before .before .loop in
-    let old = here (c .before .before .before) in
+    let lanes = at-lanes c in
+    let a = at-start (at-loop (lanes .before)) .args in
+    let l = at-loop (lanes .before) .loop in
+    let old = here lanes in
     let step = c .before .before .advanced .ensures in
     let next = row-more (now (a .e)) (a .stride) 1 (a .from) (a .c + l .i) 2 (a .t) _ _ _ (omega arith) (omega arith) old step in
     (omega arith, refl, partly-more (l .inv .2) (omega arith) (omega arith) (c .put .ensures) next)

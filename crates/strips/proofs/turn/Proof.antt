@@ -15,6 +15,16 @@ Inv-loop e first stride n t₀ b i₀ t i = (i ≤ b) × Turned e first stride n
 abbrev μ-loop : tie.MeasureT-loop
 μ-loop e first stride n t₀ b i₀ t i = b - i
 
+-- the places that the others follow
+abbrev at-start : tie.At-loop Inv-loop μ-loop → tie.Start Inv-loop μ-loop
+at-start c = c .before .before .before
+
+abbrev at-loop : tie.After-turn-rows Inv-loop μ-loop → tie.At-loop Inv-loop μ-loop
+at-loop c = c .before .before .before
+
+abbrev at-last : tie.After-turn-rows2 Inv-loop μ-loop → tie.At-loop Inv-loop μ-loop
+at-last c = c .before .before .before
+
 loop-holds : tie.Need-loop-holds Inv-loop μ-loop
 loop-holds c = (omega arith, turned-start _ _ _)
 
@@ -22,7 +32,7 @@ sub-loop : tie.Need-sub-loop Inv-loop μ-loop
 sub-loop c = search needs
 
 place : (c : tie.In-loop Inv-loop μ-loop) →
-    let a = c .before .before .before .before .args in
+    let a = at-start (c .before) .args in
     c .before .loop .i * a .stride + 8 * a .stride ≤ a .b * a .stride
 place c = rows-fit _ _ _ _ (omega arith)
 
@@ -43,11 +53,11 @@ loop-less c = search needs
 
 loop-again : tie.Need-loop-again Inv-loop μ-loop
 loop-again c =
-    let l = c .before .before .before .before .before .loop in
-    (omega arith, turned-more (l .inv .1) (c .before .before .turn-rows .ensures))
+    let rows = c .before .before in
+    (omega arith, turned-more (at-loop rows .loop .inv .1) (rows .turn-rows .ensures))
 
 rest : (c : tie.After-loop Inv-loop μ-loop) →
-    let a = c .before .before .before .before .args in
+    let a = at-start (c .before) .args in
     c .before .loop .i * a .stride + (a .b - c .before .loop .i) * a .stride ≤ a .b * a .stride
 rest c = rows-fit _ _ _ _ (omega arith)
 
@@ -68,10 +78,11 @@ same-length c = search needs
 
 returns : tie.Need-returns Inv-loop μ-loop
 returns c =
-    let l = c .before .before .before .before .before .loop in
-    let b = c .before .before .before .before .before .before .before .before .args .b in
+    let rows = c .before .before in
+    let l = at-last rows .loop in
+    let b = at-start (at-last rows) .args .b in
     let e : l .i + (b - l .i) ≡ b = omega arith in
-    rw e at (turned-more (l .inv .1) (c .before .before .turn-rows2 .ensures))
+    rw e at (turned-more (l .inv .1) (rows .turn-rows2 .ensures))
 
 pub turn-spec : {M : Type 1} → statement M
 turn-spec =

@@ -15,6 +15,13 @@ Inv-loop e first stride n t₀ b i w j₀ t j = (j ≤ n) × Turned e first stri
 abbrev μ-loop : tie.MeasureT-loop
 μ-loop e first stride n t₀ b i w j₀ t j = n - j
 
+-- the places that the others follow
+abbrev at-start : tie.At-loop Inv-loop μ-loop → tie.Start Inv-loop μ-loop
+at-start c = c .before .before .before
+
+abbrev at-loop : tie.After-copy-down Inv-loop μ-loop → tie.At-loop Inv-loop μ-loop
+at-loop c = c .before .before .before
+
 loop-holds : tie.Need-loop-holds Inv-loop μ-loop
 loop-holds c = (omega arith, turned-none _ _ _ _)
 
@@ -22,7 +29,7 @@ add-copy-down : tie.Need-add-copy-down Inv-loop μ-loop
 add-copy-down c = search needs
 
 place : (c : tie.In-loop Inv-loop μ-loop) →
-    let a = c .before .before .before .before .args in
+    let a = at-start (c .before) .args in
     c .before .loop .j * a .b + a .b ≤ a .n * a .b
 place c = row-fits _ _ _ (c .loop-test .taken)
 
@@ -43,15 +50,15 @@ loop-less c = search needs
 
 loop-again : tie.Need-loop-again Inv-loop μ-loop
 loop-again c =
-    let l = c .before .before .before .before .before .loop in
-    (omega arith, turned-row (l .inv .1) (omega arith) (c .before .before .copy-down .ensures))
+    let row = c .before .before in
+    (omega arith, turned-row (at-loop row .loop .inv .1) (omega arith) (row .copy-down .ensures))
 
 same-length : tie.Need-same-length Inv-loop μ-loop
 same-length c = search needs
 
 returns : tie.Need-returns Inv-loop μ-loop
 returns c =
-    let e : c .before .loop .j ≡ c .before .before .before .before .args .n = omega arith in
+    let e : c .before .loop .j ≡ at-start (c .before) .args .n = omega arith in
     rw e at (c .before .loop .inv .1)
 
 pub turn-rows-spec : {M : Type 1} → statement M
