@@ -3,7 +3,7 @@ use mathlib.Core.Path.{refl}
 use lib.Ieee.{ofBits, le, add, mul, div, ofInt, toUnsigned}
 use Rattle.rank.specs.Rank.{entry}
 use Rattle.bounds.specs.Scan.{bound}
-use Rattle.strips.specs.Strip.{score}
+use Rattle.lanes.specs.Score.{score}
 use Rattle.lines.specs.Lines.{lineThreshold, smooth, isLine, linesOf, estimate, narrowGap}
 use Rattle.votes.specs.Votes.{winner}
 use Rattle.reading.specs.Reading.{quartersOf, readingOf}

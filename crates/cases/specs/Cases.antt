@@ -9,7 +9,7 @@ use lib.ListN.{length}
 use Rattle.lists.specs.Tab.{tabFrom, tab}
 use Rattle.board.specs.declared.Bounds.{Bounds}
 use Rattle.bounds.specs.Bounds.{boundsOf}
-use Rattle.strips.specs.Strip.{at, score}
+use Rattle.lanes.specs.Score.{at, score}
 use Rattle.lines.specs.Lines.{linesOf}
 use Rattle.reading.specs.declared.Reading.{Reading}
 use Rattle.reading.specs.declared.Reading.the-variants.{Read, Refused}

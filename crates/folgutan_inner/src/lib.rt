@@ -1,20 +1,19 @@
 // Inner steps for tests and benchmarks alone: in no header. What a function requires, its caller makes sure of.
-ghost use mathlib.Core.List.{_++_};
 ghost use mathlib.Core.Bool.{true, false};
 ghost use Prim.Native.Nat.{_+_, _-_, _*_};
 ghost use lib.ListN.{take, drop};
 ghost use Rattle.lists.specs.Picture.{points};
-ghost use Rattle.board.specs.Board.{leastPlaneSide, sidesOutside};
-ghost use Rattle.board.specs.Planes.{allUnits};
+ghost use Rattle.board.specs.Board.{leastPlaneSide};
+ghost use Rattle.board.specs.Planes.{allUnits, FitPlanes};
+ghost use Rattle.lists.specs.Front.{AtFront};
 ghost use Rattle.gradient.specs.Gradient.{gradients};
 ghost use Rattle.edges.specs.Edges.{marks, threshold, AllPlain};
-ghost use Rattle.narrow.specs.Narrow.{UnitPlanes};
 ghost use Rattle.narrow.specs.Narrow as Narrow;
-ghost use Rattle.bounds.specs.Bounds.{boundsOf, Within};
+ghost use Rattle.bounds.specs.Bounds.{boundsOf, BoundsIn};
 ghost use Rattle.bounds.specs.Bounds as BoundsSpec;
-ghost use Rattle.strips.specs.Strip.{columnScores, rowScores};
+ghost use Rattle.strips.specs.Strip.{placeCount, columnScores, rowScores};
 ghost use Rattle.strips.specs.States.{Scorable};
-ghost use Rattle.sample.specs.Sample.{cellAnswer, SampleGives};
+ghost use Rattle.sample.specs.Sample.{CellGives};
 ghost use Rattle.folgutan_inner.specs.Corners.{boundsIn};
 ghost use mathlib.Core.Path.{_≡_};
 ghost use mathlib.Core.Bool.{not};
@@ -98,7 +97,7 @@ pub extern "C" fn folgutan_inner_gradient_of(
 pub extern "C" fn folgutan_inner_edges(row: usize, column: usize, g: &[f32], out: &mut [u8])
     requires { ⌜ (2 ≤ row) × (row ≤ 4094) × (2 ≤ column) × (column ≤ 4094) × (length (now g) ≡ row * column) × (row * column ≤ length (now out)) ⌝ }
     requires { ⌜ AllPlain (now g) ⌝ }
-    ensures { λ _. ⌜ now (out .exit) ≡ marks (threshold row column (now (g .entry))) (row * column) (now (g .entry)) ++ drop (row * column) (now (out .entry)) ⌝ }
+    ensures { λ _. ⌜ AtFront (marks (threshold row column (now (g .entry))) (row * column) (now (g .entry))) (now (out .entry)) (now (out .exit)) ⌝ }
 {
     edges::edges_of(row, column, g, out)
 }
@@ -110,7 +109,7 @@ pub extern "C" fn folgutan_inner_narrow(
     planes: &mut [f32],
     scratch: &mut [f32],
 )
-    requires { ⌜ UnitPlanes height width (now planes) × (height * width ≤ length (now scratch)) ⌝ }
+    requires { ⌜ FitPlanes 0 height width (now planes) × (height * width ≤ length (now scratch)) ⌝ }
     ensures { λ _. ⌜ now (planes .exit) ≡ Narrow.narrow 3 height width (now (planes .entry)) ⌝ }
     ensures { λ _. ⌜ drop (height * width) (now (scratch .exit)) ≡ drop (height * width) (now (scratch .entry)) ⌝ }
 {
@@ -150,7 +149,7 @@ pub extern "C" fn folgutan_inner_widen(
     column: usize,
     b: Corners,
 ) -> Corners
-    requires { ⌜ (3 ≤ row) × (row ≤ 4094) × (3 ≤ column) × (column ≤ 4094) × (column ≤ stride) × (row * stride ≤ length (now edges)) × Within row column (boundsIn b) ⌝ }
+    requires { ⌜ (3 ≤ row) × (row ≤ 4094) × (3 ≤ column) × (column ≤ 4094) × (column ≤ stride) × (row * stride ≤ length (now edges)) × BoundsIn row column (boundsIn b) ⌝ }
     ensures { λ r. ⌜ boundsIn r ≡ BoundsSpec.widen (points stride 1 (now (edges .entry))) row column (boundsIn b) ⌝ }
 {
     let w = bounds::widen(edges, stride, row, column, bounds_of(b));
@@ -169,8 +168,8 @@ pub extern "C" fn folgutan_inner_column_scores(
     b: Corners,
     out: &mut [u32],
 )
-    requires { ⌜ Scorable (now edges) stride (boundsIn b) × (b .«c_2» - b .«c_1» ≤ length (now out)) ⌝ }
-    ensures { λ _. ⌜ now (out .exit) ≡ columnScores (points stride 1 (now (edges .entry))) (boundsIn b) ++ drop (b .«c_2» - b .«c_1») (now (out .entry)) ⌝ }
+    requires { ⌜ Scorable (now edges) stride (boundsIn b) × (placeCount (b .«c_1») (b .«c_2») ≤ length (now out)) ⌝ }
+    ensures { λ _. ⌜ AtFront (columnScores (points stride 1 (now (edges .entry))) (boundsIn b)) (now (out .entry)) (now (out .exit)) ⌝ }
 {
     strips::column_scores(edges, stride, bounds_of(b), out)
 }
@@ -183,8 +182,9 @@ pub extern "C" fn folgutan_inner_row_scores(
     turned: &mut [u8],
     out: &mut [u32],
 )
-    requires { ⌜ Scorable (now edges) stride (boundsIn b) × ((b .«c_2» - b .«c_1» + 1) * (b .«r_2» - b .«r_1») ≤ length (now turned)) × (b .«r_2» - b .«r_1» ≤ length (now out)) ⌝ }
-    ensures { λ _. ⌜ now (out .exit) ≡ rowScores (points stride 1 (now (edges .entry))) (boundsIn b) ++ drop (b .«r_2» - b .«r_1») (now (out .entry)) ⌝ }
+    requires { ⌜ Scorable (now edges) stride (boundsIn b) × ((b .«c_2» - b .«c_1» + 1) * placeCount (b .«r_1») (b .«r_2») ≤ length (now turned))
+        × (placeCount (b .«r_1») (b .«r_2») ≤ length (now out)) ⌝ }
+    ensures { λ _. ⌜ AtFront (rowScores (points stride 1 (now (edges .entry))) (boundsIn b)) (now (out .entry)) (now (out .exit)) ⌝ }
 {
     strips::row_scores(edges, stride, bounds_of(b), turned, out)
 }
@@ -199,7 +199,7 @@ pub extern "C" fn folgutan_inner_sample(
     out: &mut [f32],
 ) -> u32
     requires { ⌜ 3 * (b .height * b .width) ≤ length (now planes) ⌝ }
-    ensures { λ r. ⌜ SampleGives b (now (planes .entry)) x y size (now (out .entry)) (cellAnswer b x y size (length (now (out .entry)))) r (now (out .exit)) ⌝ }
+    ensures { λ r. ⌜ CellGives b (now (planes .entry)) x y size (now (out .entry)) r (now (out .exit)) ⌝ }
 {
     sample::cell_of(b, planes, x, y, size, out)
 }
