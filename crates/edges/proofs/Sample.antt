@@ -45,8 +45,7 @@ row-in s p row column i y z h =
     let e : 3 * i % p + 1 ≤ p = omega (arith, mod-lt (3 * i) z) in
     let f : (3 * i % p + 1) * n ≤ p * n = mul-le-mul-right n e in
     let l : n * p ≤ middle column = div-mul-le-self (middle column) p in
-    omega
-    (
+    omega (
       arith,
       mul-le-mul-right column q,
       add-mul (row / 4 + (s * i + i * i / 7 % s)) 1 column,

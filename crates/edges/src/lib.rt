@@ -77,7 +77,14 @@ fn taken(every: usize, side: usize) -> usize
 }
 
 // Where row i of a part begins; its `columns` values lie among the gradients.
-fn row_start(every: usize, parts: usize, row: usize, column: usize, columns: usize, i: usize) -> usize
+fn row_start(
+    every: usize,
+    parts: usize,
+    row: usize,
+    column: usize,
+    columns: usize,
+    i: usize,
+) -> usize
     requires { ⌜ (1 ≤ every) × (1 ≤ parts) × (row ≤ 4094) × (column ≤ 4094) ⌝ }
     requires { ⌜ (columns ≡ Counts.taken parts column) × (i < Counts.taken every row) ⌝ }
     ensures { λ r. ⌜ (r ≡ start every parts row column i) × (r + columns ≤ row * column) ⌝ }

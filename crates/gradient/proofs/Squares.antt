@@ -31,7 +31,7 @@ steeper-moved a i j best = rw (row-moved a i j, row-moved (flip a) j i)
 pub square-sum : (p : List Float) (at down right : ℕ)
     → let low = at + 2 * down in
     difference (getD p at nan) (getD p (at + right) nan) (getD p (at + 2 * right) nan)
-        (getD p low nan) (getD p (low + right) nan) (getD p (low + 2 * right) nan)
+    (getD p low nan) (getD p (low + right) nan) (getD p (low + 2 * right) nan)
     ≡ rowSum (square p at down right) 0 0
 unfolding rowSum
 square-sum p at down right =

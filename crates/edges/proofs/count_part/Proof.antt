@@ -40,8 +40,7 @@ loop-holds c = (omega arith, rw zero-mul counted-none)
 row-start-requires : tie.Need-row-start-requires Inv-loop μ-loop
 row-start-requires c κs =
     let s = at-start (c .before) in
-    let sizes = at-sizes (c .before) in
-    (
+    let sizes = at-sizes (c .before) in (
       (s .pre .0 .0, s .pre .0 .1, s .pre .1 .row-in, s .pre .1 .column-in),
       (sizes .taken2 .ensures .0, omega (arith, sizes .before .taken .ensures .0, c .loop-test .taken)),
     )
@@ -59,7 +58,7 @@ here : (c : tie.After-count-row Inv-loop μ-loop)
     let a = at-start at .args in
     let n = at-sizes at .taken2 .result in
     Counted (a .bits) (cell (partAt (a .every) (a .parts) (a .row) (a .column) (now (a .g))) n) ((at .loop .i + 1) * n)
-        (at .loop .count + c .count-row .result)
+    (at .loop .count + c .count-row .result)
 here c =
     let at = at-turn c in
     let a = at-start at .args in
