@@ -1,5 +1,5 @@
--- What callers know of the edge bytes: that gradients of fit planes meet what `edges_of` requires, how many bytes there are, and that each is 0 or 1.
--- Assumes nothing.
+-- What callers know of the edge bytes: that gradients of fit planes meet what `edges_of` requires, how many bytes there are, and that each
+-- is 0 or 1. Assumes nothing.
 use Prim.Native.Nat.{ℕ, _-_, _*_, _≤_}
 use mathlib.Core.Path.{_≡_, refl}
 use mathlib.Core.Bool.{Bool, true, false}
@@ -17,14 +17,14 @@ use Rattle.board.specs.Board.{leastPlaneSide}
 use Rattle.board.specs.Planes.{FitPlanes}
 use Rattle.gradient.specs.Gradient.{gradients}
 use Rattle.gradient.proofs.Laws.{length-gradients, gradients-plain}
-use Rattle.edges.specs.Edges.{threshold, marks, edges, AllPlain}
+use Rattle.edges.specs.Edges.{threshold, marks, marked, edges, AllPlain}
 
 pub all-plain : {h w : ℕ} {planes : List Float} → FitPlanes leastPlaneSide h w planes → AllPlain (gradients h w planes)
 all-plain {h} {w} {planes} f k b = plain-bits _ (gradients-plain planes h w f k (omega (arith, length-gradients h w planes)))
 
 -- the bytes of the planes' gradients are their edge picture
 pub edges-of-gradients : (h w row column : ℕ) (planes g : List Float) → row ≡ h - 2 → column ≡ w - 2 → g ≡ gradients h w planes
-    → marks (threshold row column g) (row * column) g ≡ edges h w planes
+    → marked row column g ≡ edges h w planes
 edges-of-gradients h w row column planes g r c e = rw (r, c, e)
 
 pub length-edges : (h w : ℕ) (planes : List Float) → length (edges h w planes) ≡ (h - 2) * (w - 2)

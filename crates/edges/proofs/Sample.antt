@@ -1,10 +1,11 @@
--- The sample and its parts: where their rows lie, how many values they have, that they are plain, that the rank is one of the sample's places,
--- and counting by the bits, value by value and row by row. Assumes nothing.
-use Prim.Native.Nat.{ℕ, zero, suc, _+_, _-_, _*_, _/_, _%_, _^_, _≤_, _<_}
+-- The sample and its parts: where their rows lie, how many values they have, that they are plain, that the rank is one of the sample's
+-- places, and counting by the bits, value by value and row by row. Assumes nothing.
+use Prim.Native.Nat.{ℕ, zero, suc, _+_, _*_, _/_, _%_, _^_, _≤_, _<_}
 use mathlib.Core.Path.{_≡_, refl, sym, ap}
 use mathlib.Core.Bool.{false, cond}
 use mathlib.Core.List.{List, [], _∷_}
-use native.Mathlib.Nat.{add-mul, zero-mul, one-mul, mul-zero, mul-comm, mul-le-mul, mul-le-mul-right, mul-pos, div-lt-iff-lt-mul, div-mul-le-self, mod-lt}
+use native.Mathlib.Nat.{add-mul, zero-mul, one-mul, mul-zero, mul-comm, mul-le-mul, mul-le-mul-right, mul-pos}
+use native.Mathlib.Nat.{div-lt-iff-lt-mul, div-mul-le-self, mod-lt}
 use native.Mathlib.Omega.{arith}
 use lib.Dec.{T, leb}
 use lib.Ieee.{Float, nan, binary32, le, fits, toBits, ofBits}
@@ -44,8 +45,15 @@ row-in s p row column i y z h =
     let e : 3 * i % p + 1 ≤ p = omega (arith, mod-lt (3 * i) z) in
     let f : (3 * i % p + 1) * n ≤ p * n = mul-le-mul-right n e in
     let l : n * p ≤ middle column = div-mul-le-self (middle column) p in
-    omega
-    (arith, mul-le-mul-right column q, add-mul (row / 4 + (s * i + i * i / 7 % s)) 1 column, one-mul column, add-mul (3 * i % p) 1 n, one-mul n, mul-comm p n)
+    omega (
+      arith,
+      mul-le-mul-right column q,
+      add-mul (row / 4 + (s * i + i * i / 7 % s)) 1 column,
+      one-mul column,
+      add-mul (3 * i % p) 1 n,
+      one-mul n,
+      mul-comm p n,
+    )
 
 pub length-part : (s p row column : ℕ) (g : List Float) → length (part s p row column g) ≡ taken s row * taken p column
 length-part s p row column g = length-tabFrom 0 (taken s row * taken p column) _
@@ -55,8 +63,8 @@ some-wide rows zero h = absurd (omega (arith, mul-zero rows))
 some-wide rows (suc n) h = omega arith
 
 -- every value of a part is one of the gradients
-pub part-plain : (s p row column : ℕ) (g : List Float) → 1 ≤ s → 1 ≤ p → length g ≡ row * column → ((k : ℕ) → T (fits binary32 (getD g k nan)))
-    → AllPlain g → AllAre Plain (part s p row column g)
+pub part-plain : (s p row column : ℕ) (g : List Float) → 1 ≤ s → 1 ≤ p → length g ≡ row * column
+    → ((k : ℕ) → T (fits binary32 (getD g k nan))) → AllPlain g → AllAre Plain (part s p row column g)
 part-plain s p row column g y o e f q k h =
     let rows = taken s row in
     let n = taken p column in
@@ -82,7 +90,7 @@ part-all row column g =
     let z : 3 * (k / n) % 1 ≡ 0 = omega arith in
     ap (λ (p : ℕ). getD g p nan) (rw (y, z) (omega (arith, zero-mul n)))))
 
-pub length-sample : (row column : ℕ) (g : List Float) → length (sample row column g) ≡ middle row * middle column
+length-sample : (row column : ℕ) (g : List Float) → length (sample row column g) ≡ middle row * middle column
 length-sample row column g = length-tabFrom 0 (middle row * middle column) _
 
 pub sample-plain : (row column : ℕ) (g : List Float) → length g ≡ row * column → ((k : ℕ) → T (fits binary32 (getD g k nan))) → AllPlain g
@@ -100,12 +108,13 @@ unfolding rankOf
 rank-below m z h = share-below (ofBits binary32 0x3F0CCCCD) 9227469 16777216 m share (omega arith) (omega arith) z h (omega arith)
 
 -- the size of a sample
-pub size-in : (row column : ℕ) → 2 ≤ row → row ≤ 4094 → 2 ≤ column → column ≤ 4094
-    → let m = middle row * middle column in (0 < m) × (m ≤ 2 ^ 22)
-size-in row column a b c d =
-    let r : middle row ≤ 2048 = omega arith in
-    let k : middle column ≤ 2048 = omega arith in
-    (mul-pos (omega arith) (omega arith), mul-le-mul r k)
+pub size-in : {m n : ℕ} (row column : ℕ) (g : List Float) → m ≡ middle row → n ≡ middle column
+    → 2 ≤ row → row ≤ 4094 → 2 ≤ column → column ≤ 4094
+    → (0 < m * n) × (m * n ≤ 2 ^ 22) × (m * n ≡ length (sample row column g))
+size-in {m} {n} row column g e f a b c d =
+    let r : m ≤ 2048 = omega arith in
+    let k : n ≤ 2048 = omega arith in
+    (mul-pos (omega arith) (omega arith), mul-le-mul r k, rw (e, f) (sym (length-sample row column g)))
 
 -- ---- counting by the bits
 
@@ -131,9 +140,10 @@ counted-more {b} {f} {k} {n = n} c h p e =
 pub counted-row : {b count n : ℕ} (f : ℕ → ℕ → Float) (columns i : ℕ) → Counted b (cell f columns) (i * columns) count
     → n ≡ countAtMost (toBits binary32) b (tab columns (f i)) → Counted b (cell f columns) ((i + 1) * columns) (count + n)
 counted-row {b} f columns i c e =
-    counted (rw (grid-more i columns f) (omega (arith, c .is, count-append (atMost (toBits binary32) b) (grid i columns f) (tab columns (f i)))))
+    let more = count-append (atMost (toBits binary32) b) (grid i columns f) (tab columns (f i)) in
+    counted (rw (grid-more i columns f) (omega (arith, c .is, more)))
 
 -- all rows, by other names of their number and their length
-pub counted-all : {b i rows columns n count : ℕ} (f : ℕ → ℕ → Float) → Counted b (cell f columns) (i * columns) count → i ≡ rows → columns ≡ n
-    → count ≡ countAtMost (toBits binary32) b (grid rows n f)
+pub counted-all : {b i rows columns n count : ℕ} (f : ℕ → ℕ → Float) → Counted b (cell f columns) (i * columns) count → i ≡ rows
+    → columns ≡ n → count ≡ countAtMost (toBits binary32) b (grid rows n f)
 counted-all f c e d = rw (sym e, sym d) (c .is)

@@ -37,7 +37,8 @@ clip-bits x p =
         ∙ ap (ofBits binary32) (omega (arith, ltb-false 0x3F800000 (toBits binary32 x) e, ltb-false (toBits binary32 x) 0x3C23D70A d))
 
 -- the bits sought among plain values, by those of the entry
-sought-is : (l : List Float) (rank : ℕ) → rank < length l → AllAre Plain l → sought l rank ≡ clipped (toBits binary32 (entry (toBits binary32) nan l rank))
+sought-is : (l : List Float) (rank : ℕ) → rank < length l → AllAre Plain l
+    → sought l rank ≡ clipped (toBits binary32 (entry (toBits binary32) nan l rank))
 sought-is l rank h p =
     let b = toBits binary32 (entry (toBits binary32) nan l rank) in
     ap (toBits binary32) (clip-bits _ (entry-has (toBits binary32) nan Plain l rank h p)) ∙ bits-back (clipped b) (omega arith)

@@ -3,17 +3,25 @@ use Prim.Native.Nat.{ℕ, _+_, _*_, _/_, _%_, _≤_, _<_}
 use mathlib.Core.Path.{_≡_}
 use mathlib.Core.List.{List}
 use lib.Ieee.{Float, nan, binary32, toBits}
-use lib.ListN.{getD}
+use lib.ListN.{length, getD}
 use Rattle.lists.specs.Tab.{grid}
 use Rattle.rank.specs.Rank.{entry}
-use Rattle.edges.specs.Edges.{middle, clip}
+use Rattle.edges.specs.Edges.{middle, clip, AllPlain}
 use Rattle.edges.specs.declared.Range.{Range}
+
+-- what the search asks of the gradients: their sides, and that each is a plain value
+pub record Gradients (row column : ℕ) (g : List Float) : Type 0 where
+  pub row-in : row ≤ 4094
+  pub column-in : column ≤ 4094
+  pub long : length g ≡ row * column
+  pub plain : AllPlain g
 
 -- how many rows a part of the sample has, or columns of each: one in s of the middle half of the side
 abbrev pub taken : ℕ → ℕ → ℕ
 taken s side = middle side / s
 
--- Where row i of a part begins. Which row of each s is taken varies, and comes round after 7 · s of them; so does which p-th of its columns.
+-- Where row i of a part begins. Which row of each s is taken varies, and comes round after 7 · s of them; so varies which p-th of the
+-- columns.
 abbrev pub start : ℕ → ℕ → ℕ → ℕ → ℕ → ℕ
 start s p row column i = (row / 4 + (s * i + i * i / 7 % s)) * column + (column / 4 + 3 * i % p * taken p column)
 

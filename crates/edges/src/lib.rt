@@ -9,9 +9,9 @@ ghost use Rattle.lists.specs.Tab.{tab};
 ghost use Rattle.lists.specs.Picture.{bit};
 ghost use Rattle.rank.specs.Rank.{countAtMost};
 ghost use Rattle.edges.specs.Edges as Spec;
-ghost use Rattle.edges.specs.Edges.{sample, rankOf, threshold, marks, AllPlain};
+ghost use Rattle.edges.specs.Edges.{sample, rankOf, threshold, marked, AllPlain, EdgesFit};
 ghost use Rattle.edges.specs.Counts as Counts;
-ghost use Rattle.edges.specs.Counts.{part, start, sought, Cut};
+ghost use Rattle.edges.specs.Counts.{Gradients, part, start, sought, Cut};
 
 // The bits of 0.01 and of 1.0, the limits of the threshold.
 const LEAST_BITS: u32 = 0x3C23D70A;
@@ -77,7 +77,14 @@ fn taken(every: usize, side: usize) -> usize
 }
 
 // Where row i of a part begins; its `columns` values lie among the gradients.
-fn row_start(every: usize, parts: usize, row: usize, column: usize, columns: usize, i: usize) -> usize
+fn row_start(
+    every: usize,
+    parts: usize,
+    row: usize,
+    column: usize,
+    columns: usize,
+    i: usize,
+) -> usize
     requires { ⌜ (1 ≤ every) × (1 ≤ parts) × (row ≤ 4094) × (column ≤ 4094) ⌝ }
     requires { ⌜ (columns ≡ Counts.taken parts column) × (i < Counts.taken every row) ⌝ }
     ensures { λ r. ⌜ (r ≡ start every parts row column i) × (r + columns ≤ row * column) ⌝ }
@@ -87,8 +94,8 @@ fn row_start(every: usize, parts: usize, row: usize, column: usize, columns: usi
 
 // How many values of a part of the sample are at most the value with these bits.
 fn count_part(every: usize, parts: usize, row: usize, column: usize, g: &[f32], bits: u32) -> u32
-    requires { ⌜ (1 ≤ every) × (1 ≤ parts) × (row ≤ 4094) × (column ≤ 4094) × (length (now g) ≡ row * column) × (bits ≤ 0x7F800000) ⌝ }
-    requires { ⌜ AllPlain (now g) ⌝ }
+    requires { ⌜ (1 ≤ every) × (1 ≤ parts) × (bits ≤ 0x7F800000) ⌝ }
+    requires { ⌜ Gradients row column (now g) ⌝ }
     ensures { λ r. ⌜ r ≡ countAtMost (toBits binary32) bits (part every parts row column (now (g .entry))) ⌝ }
 {
     let rows = taken(every, row);
@@ -214,8 +221,8 @@ fn rank_in_part(s: Seen, rank: u32) -> u64 {
 
 // Where entry `rank` of the part lies, as near as the range allows.
 fn guess(row: usize, column: usize, g: &[f32], rank: u64, from: Range) -> u32
-    requires { ⌜ (row ≤ 4094) × (column ≤ 4094) × (length (now g) ≡ row * column) × (from .lo ≤ from .hi) × (from .hi ≤ 0x3F800000) ⌝ }
-    requires { ⌜ AllPlain (now g) ⌝ }
+    requires { ⌜ (from .lo ≤ from .hi) × (from .hi ≤ 0x3F800000) ⌝ }
+    requires { ⌜ Gradients row column (now g) ⌝ }
     ensures { λ r. ⌜ (from .lo ≤ r) × (r ≤ from .hi) ⌝ }
 {
     let mut range = from;
@@ -243,8 +250,8 @@ fn near_end(r: Range, reach: u32, from_lo: bool) -> u32
 
 // Where to count next.
 fn next_count(row: usize, column: usize, g: &[f32], rank: u32, range: Range, seen: Seen) -> u32
-    requires { ⌜ (row ≤ 4094) × (column ≤ 4094) × (length (now g) ≡ row * column) × (range .lo < range .hi) × (range .hi ≤ 0x3F800000) ⌝ }
-    requires { ⌜ AllPlain (now g) ⌝ }
+    requires { ⌜ (range .lo < range .hi) × (range .hi ≤ 0x3F800000) ⌝ }
+    requires { ⌜ Gradients row column (now g) ⌝ }
     ensures { λ mid. ⌜ (range .lo ≤ mid) × (mid < range .hi) ⌝ }
 {
     if guessing(seen) {
@@ -260,8 +267,7 @@ fn next_count(row: usize, column: usize, g: &[f32], rank: u32, range: Range, see
 
 // The bits of the clipped entry `rank` of the sample, found by counting: no sort, no copy.
 fn threshold_bits(row: usize, column: usize, g: &[f32], rank: u32) -> u32
-    requires { ⌜ (row ≤ 4094) × (column ≤ 4094) × (length (now g) ≡ row * column) ⌝ }
-    requires { ⌜ AllPlain (now g) ⌝ }
+    requires { ⌜ Gradients row column (now g) ⌝ }
     ensures { λ r. ⌜ (rank < length (sample row column (now (g .entry))) → r ≡ sought (sample row column (now (g .entry))) rank) ⌝ }
     ensures { λ r. ⌜ r ≤ 0x3F800000 ⌝ }
 {
@@ -281,8 +287,8 @@ fn threshold_bits(row: usize, column: usize, g: &[f32], rank: u32) -> u32
 }
 
 fn threshold_of(row: usize, column: usize, g: &[f32]) -> f32
-    requires { ⌜ (2 ≤ row) × (row ≤ 4094) × (2 ≤ column) × (column ≤ 4094) × (length (now g) ≡ row * column) ⌝ }
-    requires { ⌜ AllPlain (now g) ⌝ }
+    requires { ⌜ (2 ≤ row) × (2 ≤ column) ⌝ }
+    requires { ⌜ Gradients row column (now g) ⌝ }
     ensures { λ r. ⌜ r ≡ threshold row column (now (g .entry)) ⌝ }
 {
     let rank = rank_of(middle(row) * middle(column));
@@ -291,9 +297,9 @@ fn threshold_of(row: usize, column: usize, g: &[f32]) -> f32
 
 // A byte for each gradient, 1 where it is at least the threshold.
 pub fn edges_of(row: usize, column: usize, g: &[f32], out: &mut [u8])
-    requires { ⌜ (2 ≤ row) × (row ≤ 4094) × (2 ≤ column) × (column ≤ 4094) × (length (now g) ≡ row * column) × (row * column ≤ length (now out)) ⌝ }
+    requires { ⌜ EdgesFit row column (now g) (now out) ⌝ }
     requires { ⌜ AllPlain (now g) ⌝ }
-    ensures { λ _. ⌜ AtFront (marks (threshold row column (now (g .entry))) (row * column) (now (g .entry))) (now (out .entry)) (now (out .exit)) ⌝ }
+    ensures { λ _. ⌜ AtFront (marked row column (now (g .entry))) (now (out .entry)) (now (out .exit)) ⌝ }
 {
     let th = threshold_of(row, column, g);
     for k in 0..g.len() {

@@ -39,15 +39,18 @@ loop-holds c = (omega arith, rw zero-mul counted-none)
 
 row-start-requires : tie.Need-row-start-requires Inv-loop μ-loop
 row-start-requires c κs =
-    let p = at-start (c .before) .pre .0 in
-    let sizes = at-sizes (c .before) in
-    ((p .0, p .1, p .2, p .3), (sizes .taken2 .ensures .0, omega (arith, sizes .before .taken .ensures .0, c .loop-test .taken)))
+    let s = at-start (c .before) in
+    let sizes = at-sizes (c .before) in (
+      (s .pre .0 .0, s .pre .0 .1, s .pre .1 .row-in, s .pre .1 .column-in),
+      (sizes .taken2 .ensures .0, omega (arith, sizes .before .taken .ensures .0, c .loop-test .taken)),
+    )
 
 count-row-requires : tie.Need-count-row-requires Inv-loop μ-loop
 count-row-requires c κs =
     let at = c .before .before in
     let s = at-start at in
-    ((omega (arith, c .row-start .ensures .1, s .pre .0 .4), omega (arith, at-sizes at .taken2 .ensures .1), s .pre .0 .5), s .pre .1)
+    let wide = at-sizes at .taken2 .ensures .1 in
+    ((omega (arith, c .row-start .ensures .1, s .pre .1 .long), omega (arith, wide), s .pre .0 .2), s .pre .1 .plain)
 
 -- the count with one row more
 here : (c : tie.After-count-row Inv-loop μ-loop)
@@ -55,11 +58,12 @@ here : (c : tie.After-count-row Inv-loop μ-loop)
     let a = at-start at .args in
     let n = at-sizes at .taken2 .result in
     Counted (a .bits) (cell (partAt (a .every) (a .parts) (a .row) (a .column) (now (a .g))) n) ((at .loop .i + 1) * n)
-        (at .loop .count + c .count-row .result)
+    (at .loop .count + c .count-row .result)
 here c =
     let at = at-turn c in
     let a = at-start at .args in
-    counted-row (partAt (a .every) (a .parts) (a .row) (a .column) (now (a .g))) (at-sizes at .taken2 .result) (at .loop .i) (at .loop .inv .1)
+    let value = partAt (a .every) (a .parts) (a .row) (a .column) (now (a .g)) in
+    counted-row value (at-sizes at .taken2 .result) (at .loop .i) (at .loop .inv .1)
     (rw (c .before .row-start .ensures .0) at (c .count-row .ensures))
 
 add-count : tie.Need-add-count Inv-loop μ-loop

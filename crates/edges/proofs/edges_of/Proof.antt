@@ -1,4 +1,5 @@
--- `edges::edges_of` meets its contract. The invariant: the marks of the first k gradients stand at the front. What is left of the gradients falls.
+-- `edges::edges_of` meets its contract. The invariant: the marks of the first k gradients stand at the front. What is left of
+-- the gradients falls.
 use Prim.Native.Nat.{ℕ, _-_, _*_, _≤_}
 use mathlib.Core.Path.{_≡_, sym}
 use mathlib.Core.List.{List}

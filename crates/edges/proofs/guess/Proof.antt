@@ -12,6 +12,13 @@ Inv-loop row column g rank range₀ range = (range₀ .lo ≤ range .lo) × (ran
 abbrev μ-loop : tie.MeasureT-loop
 μ-loop row column g rank range₀ range = range .hi - range .lo
 
+-- the places that a turn comes from: where it begins, and where it counts
+abbrev at-halfway : tie.After-cut Inv-loop μ-loop → tie.After-halfway Inv-loop μ-loop
+at-halfway c = c .before .before
+
+abbrev at-turn : tie.After-cut Inv-loop μ-loop → tie.At-loop Inv-loop μ-loop
+at-turn c = at-halfway c .before .before .before
+
 loop-holds : tie.Need-loop-holds Inv-loop μ-loop
 loop-holds c = search needs
 
@@ -26,17 +33,17 @@ cut-requires c κs = search needs
 
 -- the range after a turn
 next : (c : tie.After-cut Inv-loop μ-loop)
-    → let r = c .before .before .before .before .before .loop .range in
+    → let r = at-turn c .loop .range in
     let s = c .cut .result in
     (r .lo ≤ s .lo) × (s .lo ≤ s .hi) × (s .hi ≤ r .hi) × (s .hi - s .lo < r .hi - r .lo)
-next c = let m = c .before .before .halfway .ensures in cut-inside (m .0) (m .1) (c .cut .ensures)
+next c = let m = at-halfway c .halfway .ensures in cut-inside (m .0) (m .1) (c .cut .ensures)
 
 loop-less : tie.Need-loop-less Inv-loop μ-loop
 loop-less c = next c .3
 
 loop-again : tie.Need-loop-again Inv-loop μ-loop
 loop-again c =
-    let i = c .before .before .before .before .before .loop .inv in
+    let i = at-turn c .loop .inv in
     let n = next c in
     (omega (arith, i .0, n .0), n .1, omega (arith, i .2, n .2))
 

@@ -37,7 +37,8 @@ add-result : tie.Need-add-result
 add-result c =
     let b = c .before .before in
     let x = b .before .less2 .result * b .less3 .result in
-    omega (arith, c .struct-known .given .1 .1 .0, mul-le-mul (b .before .less2 .ensures .1) (b .less3 .ensures .1), div-le-self x (b .before .before .less .result))
+    let m = mul-le-mul (b .before .less2 .ensures .1) (b .less3 .ensures .1) in
+    omega (arith, c .struct-known .given .1 .1 .0, m, div-le-self x (b .before .before .less .result))
 
 returns : tie.Need-returns
 returns c = search needs

@@ -16,7 +16,9 @@ inside c = let a = c .args in within (a .every) (a .row) (a .i) (a .i * a .i / 7
 -- and lies among the gradients
 among : (c : tie.Start)
     → let a = c .args in
-    (a .row / 4 + (a .every * a .i + a .i * a .i / 7 % a .every)) * a .column + (a .column / 4 + 3 * a .i % a .parts * a .columns) + a .columns
+    (a .row / 4 + (a .every * a .i + a .i * a .i / 7 % a .every)) * a .column
+    + (a .column / 4 + 3 * a .i % a .parts * a .columns)
+    + a .columns
     ≤ a .row * a .column
 among c =
     let a = c .args in

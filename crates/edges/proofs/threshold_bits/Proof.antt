@@ -18,21 +18,34 @@ Inv-loop row column g rank seen₀ range₀ seen range = Holds (part 1 1 row col
 abbrev μ-loop : tie.MeasureT-loop
 μ-loop row column g rank seen₀ range₀ seen range = range .hi - range .lo
 
+-- the places that a turn comes from: where it begins, where it counts, and what it counts
+abbrev at-counted : tie.After-cut Inv-loop μ-loop → tie.After-count-part Inv-loop μ-loop
+at-counted c = c .before .before .before
+
+abbrev at-placed : tie.After-cut Inv-loop μ-loop → tie.After-next-count Inv-loop μ-loop
+at-placed c = at-counted c .before
+
+abbrev at-turn : tie.After-cut Inv-loop μ-loop → tie.At-loop Inv-loop μ-loop
+at-turn c = at-placed c .before .before .before
+
+abbrev at-start : tie.After-seen-first Inv-loop μ-loop → tie.Start Inv-loop μ-loop
+at-start c = c .before .before
+
 seen-first-requires : tie.Need-seen-first-requires Inv-loop μ-loop
 seen-first-requires c κs = search needs
 
 -- the values of the sample are plain
 plain : (c : tie.After-seen-first Inv-loop μ-loop)
-    → let a = c .before .before .args in
+    → let a = at-start c .args in
     AllAre Plain (part 1 1 (a .row) (a .column) (now (a .g)))
 plain c =
-    let s = c .before .before in
-    let a = s .args in
-    part-plain 1 1 (a .row) (a .column) (now (a .g)) (omega arith) (omega arith) (s .pre .0 .2) (c .before .shared-slice-known .given) (s .pre .1)
+    let a = at-start c .args in
+    let p = at-start c .pre in
+    part-plain 1 1 (a .row) (a .column) (now (a .g)) (omega arith) (omega arith) (p .long) (c .before .shared-slice-known .given) (p .plain)
 
 loop-holds : tie.Need-loop-holds Inv-loop μ-loop
 loop-holds c =
-    let a = c .before .before .args in
+    let a = at-start c .args in
     holds-all (part 1 1 (a .row) (a .column) (now (a .g))) (a .rank) _ (plain c) refl refl
 
 next-count-requires : tie.Need-next-count-requires Inv-loop μ-loop
@@ -52,20 +65,19 @@ cut-requires c κs = search needs
 
 loop-less : tie.Need-loop-less Inv-loop μ-loop
 loop-less c =
-    let m = c .before .before .before .before .next-count .ensures in
+    let m = at-placed c .next-count .ensures in
     cut-inside (m .0) (m .1) (c .cut .ensures) .3
 
 loop-again : tie.Need-loop-again Inv-loop μ-loop
 loop-again c =
-    let counted = c .before .before .before in
-    let placed = counted .before in
-    let at = placed .before .before .before in
-    holds-cut (plain (at .before)) (at .loop .inv) (placed .next-count .ensures .0) (placed .next-count .ensures .1) (counted .count-part .ensures) (c .cut .ensures)
+    let at = at-turn c in
+    let m = at-placed c .next-count .ensures in
+    holds-cut (plain (at .before)) (at .loop .inv) (m .0) (m .1) (at-counted c .count-part .ensures) (c .cut .ensures)
 
 returns : tie.Need-returns Inv-loop μ-loop
 returns c =
     let at = c .before .before in
-    let a = at .before .before .before .args in
+    let a = at-start (at .before) .args in
     let i = at .loop .inv in
     let l = part 1 1 (a .row) (a .column) (now (a .g)) in
     let found : (a .rank < length l → at .loop .range .lo ≡ sought l (a .rank)) = λ h. omega (arith, i .low h, i .high h, c .if1 .left) in
