@@ -1,47 +1,80 @@
--- Each answer of the definitions by the facts that lead to it. Assumes nothing.
+-- Each answer of the definitions by the facts that lead to it, and what an answer of 0 shows. Assumes nothing.
 use Prim.Native.Nat.{ℕ, _*_, _≤_, _<_}
-use mathlib.Core.Path.{_≡_}
+use mathlib.Core.Path.{_≡_, refl}
+use mathlib.Core.Bool.{Bool, true, false, cond, _||_}
 use mathlib.Core.List.{List}
 use native.Mathlib.Omega.{arith}
-use borrow.Author.Tests.{eq-eqb, ne-eqb, le-leb, lt-leb, lt-ltb, le-ltb}
+use borrow.Author.Tests.{eq-eqb, ne-eqb, eqb-false, le-leb, lt-leb, leb-false, lt-ltb, le-ltb, ltb-false}
+use lib.Dec.{eqb, leb, ltb}
 use lib.ListN.{length}
-use Rattle.lines.specs.Lines.{largest, InLimits, linesOf, wideGaps}
+use Rattle.lines.specs.Lines.{largest, InLimits, linesOf, wideGaps, estimate}
 use Rattle.reading.specs.declared.Reading.the-variants as Of
 use Rattle.reading.specs.declared.Quarters.the-variants as In
-use Rattle.reading.specs.Reading.{gapOf, remaining, accepted, quartersOf, pitched, readingOf}
+use Rattle.reading.specs.Reading.{remaining, accepted, gapAnswer, quartersOf, pitched, lineAnswer, readingOf}
+
+-- ---- what the lines call for
+
+module _ (lines : List ℕ) where
+  pub no-gap : length (wideGaps lines) ≡ 0 → 6 ≡ gapAnswer lines
+  no-gap e = rw (eq-eqb (length (wideGaps lines)) 0 e)
+
+  pub too-wide : 0 < length (wideGaps lines) → 206 ≤ estimate lines → 7 ≡ gapAnswer lines
+  too-wide g h = rw (ne-eqb (length (wideGaps lines)) 0 (λ e. omega arith), le-leb 206 (estimate lines) h)
+
+  pub gap-fits : 0 < length (wideGaps lines) → estimate lines < 206 → gapAnswer lines ≡ 0
+  gap-fits g h = rw (ne-eqb (length (wideGaps lines)) 0 (λ e. omega arith), lt-leb 206 (estimate lines) h)
 
 -- a list that is fit
 module _ (s : List ℕ) where
-  pub no-gap : length (wideGaps (linesOf s)) ≡ 0 → In.Refused 6 ≡ quartersOf s
+  pub refused : {n : ℕ} → n ≡ gapAnswer (linesOf s) → 0 < n → In.Refused n ≡ quartersOf s
   unfolding quartersOf
-  no-gap e = rw (eq-eqb (length (wideGaps (linesOf s))) 0 e)
+  refused {n} e h = rw (← e, ne-eqb n 0 (λ z. omega arith))
 
-  pub too-wide : 0 < length (wideGaps (linesOf s)) → 206 ≤ gapOf s → In.Refused 7 ≡ quartersOf s
+  pub read-on : gapAnswer (linesOf s) ≡ 0 → accepted (estimate (linesOf s)) (remaining s) ≡ quartersOf s
   unfolding quartersOf
-  too-wide g h = rw (ne-eqb (length (wideGaps (linesOf s))) 0 (λ e. omega arith), le-leb 206 (gapOf s) h)
+  read-on e = rw e
 
-  pub read-on : 0 < length (wideGaps (linesOf s)) → gapOf s < 206 → accepted (gapOf s) (remaining s) ≡ quartersOf s
-  unfolding quartersOf
-  read-on g h = rw (ne-eqb (length (wideGaps (linesOf s))) 0 (λ e. omega arith), lt-leb 206 (gapOf s) h)
+-- ---- what comes before the lines
 
--- any list
 module _ (s : List ℕ) (room : ℕ) where
-  pub too-short : length s < 4 → Of.Refused 1 ≡ readingOf s room
-  unfolding readingOf
+  pub too-short : length s < 4 → 1 ≡ lineAnswer s room
   too-short a = rw (lt-ltb (length s) 4 a)
 
-  pub too-long : 4096 < length s → Of.Refused 1 ≡ readingOf s room
-  unfolding readingOf
+  pub too-long : 4096 < length s → 1 ≡ lineAnswer s room
   too-long b = rw (le-ltb (length s) 4 (omega arith), lt-ltb 4096 (length s) b)
 
-  pub no-room : 4 ≤ length s → length s ≤ 4096 → room < 4 * length s → Of.Refused 3 ≡ readingOf s room
-  unfolding readingOf
+  pub no-room : 4 ≤ length s → length s ≤ 4096 → room < 4 * length s → 3 ≡ lineAnswer s room
   no-room a b c = rw (le-ltb (length s) 4 a, le-ltb 4096 (length s) b, lt-ltb room (4 * length s) c)
 
-  pub too-high : 4 ≤ length s → length s ≤ 4096 → 4 * length s ≤ room → 4096 < largest s → Of.Refused 11 ≡ readingOf s room
-  unfolding readingOf
-  too-high a b c d = rw (le-ltb (length s) 4 a, le-ltb 4096 (length s) b, le-ltb room (4 * length s) c, lt-ltb 4096 (largest s) d)
+  pub too-high : 4 ≤ length s → length s ≤ 4096 → 4 * length s ≤ room → 4096 < largest s → 11 ≡ lineAnswer s room
+  too-high a b c d =
+      rw (le-ltb (length s) 4 a, le-ltb 4096 (length s) b, le-ltb room (4 * length s) c, lt-ltb 4096 (largest s) d)
 
-  pub fit : InLimits s → 4 * length s ≤ room → pitched (quartersOf s) ≡ readingOf s room
+  pub fit-answer : InLimits s → 4 * length s ≤ room → 0 ≡ lineAnswer s room
+  fit-answer f c =
+      let short = le-ltb (length s) 4 (f .shortest) in
+      rw (short, le-ltb 4096 (length s) (f .longest), le-ltb room (4 * length s) c, le-ltb 4096 (largest s) (f .entries))
+
+  -- and back
+  pub line-fit : lineAnswer s room ≡ 0 → InLimits s × (4 * length s ≤ room)
+  line-fit = go (ltb (length s) 4) refl (ltb 4096 (length s)) refl (ltb room (4 * length s)) refl (ltb 4096 (largest s)) refl
+    where
+      go : (a : Bool) → ltb (length s) 4 ≡ a → (b : Bool) → ltb 4096 (length s) ≡ b → (c : Bool) → ltb room (4 * length s) ≡ c
+          → (d : Bool) → ltb 4096 (largest s) ≡ d → let n : ℕ = cond (a || b) 1 (cond c 3 (cond d 11 0)) in n ≡ 0
+          → InLimits s × (4 * length s ≤ room)
+      go true p b q c r d t e = absurd (omega arith)
+      go false p true q c r d t e = absurd (omega arith)
+      go false p false q true r d t e = absurd (omega arith)
+      go false p false q false r true t e = absurd (omega arith)
+      go false p false q false r false t e = (
+        record { shortest = ltb-false (length s) 4 p; longest = ltb-false 4096 (length s) q; entries = ltb-false 4096 (largest s) t },
+        ltb-false room (4 * length s) r,
+      )
+
+  pub declined : {n : ℕ} → n ≡ lineAnswer s room → (n ≡ 0 → ⊥) → Of.Refused n ≡ readingOf s room
   unfolding readingOf
-  fit f c = rw (le-ltb (length s) 4 (f .least), le-ltb 4096 (length s) (f .most), le-ltb room (4 * length s) c, le-ltb 4096 (largest s) (f .entries))
+  declined {n} e h = rw (← e, ne-eqb n 0 h)
+
+  pub taken : lineAnswer s room ≡ 0 → pitched (quartersOf s) ≡ readingOf s room
+  unfolding readingOf
+  taken e = rw e

@@ -2,9 +2,10 @@
 // Laws for callers: proofs/Laws (an accepted reading has the winner of the remaining lines, and its pitch is at most 200).
 ghost use mathlib.Core.Path.{_≡_};
 ghost use Prim.Native.Nat.{ℕ, _+_, _-_, _*_, _≤_, _<_};
-ghost use lib.ListN.{length, getD, drop};
-ghost use Rattle.lines.specs.Lines.{largest, InLimits, dropFirst, dropLast};
-ghost use Rattle.reading.specs.Reading.{pitchOf, countOf, accepted, quartersOf, pitched, readingOf, Readable, Pitched};
+ghost use lib.ListN.{length, getD};
+ghost use Rattle.lines.specs.Lines.{InLimits};
+ghost use Rattle.reading.specs.Reading.{pitchOf, countOf, accepted, quartersOf, pitched, lineAnswer, readingOf, KeptBeyond};
+ghost use Rattle.reading.specs.Reading.{Readable, RemainingGives, Pitched};
 
 // A pitch with an offset, a count and the votes, or a refusal.
 pub enum Reading {
@@ -28,6 +29,12 @@ pub enum Quarters {
     Refused(u32),
 }
 
+// What is searched: the lines that remain, as a part of the array that was lent for them, and e. Or a refusal.
+pub enum Remaining {
+    Lines { from: usize, end: usize, e: u32 },
+    Refused(u32),
+}
+
 // The limits of a list: its length, and its entries.
 const SHORTEST: usize = 4;
 
@@ -35,7 +42,7 @@ const LONGEST: usize = 4096;
 
 const HIGHEST: u32 = 4096;
 
-// From this gap on there is no pitch to search.
+// From this e on there is no pitch to search.
 const WIDE: u32 = 206;
 
 pub fn pitch_of(quarter: usize) -> f32
@@ -54,40 +61,52 @@ fn count_of(lines: &[u32], quarter: usize) -> usize
     binary32::trunc(span as f32 / pitch_of(quarter)) as usize
 }
 
-// The reading of lines whose gap is no hindrance. The lines that remain are a part of them.
-fn read_lines(lines: &[u32], e: u32, row: &mut [u32]) -> Quarters
-    requires { ⌜ (largest (now lines) ≤ 4096) × Readable e (dropLast e (dropFirst e (now lines))) (length (now row)) ⌝ }
-    ensures { λ r. ⌜ r ≡ accepted e (dropLast e (dropFirst e (now (lines .entry)))) ⌝ }
+// The lines that remain of s, in the array that is lent for them. The scratch serves the smoothed list, then the gaps.
+fn remaining_of(s: &[u32], scratch: &mut [u32], array: &mut [u32]) -> Remaining
+    requires { ⌜ InLimits (now s) × (length (now s) ≤ length (now scratch)) × (length (now s) ≤ length (now array)) ⌝ }
+    ensures { λ r. ⌜ RemainingGives (now (s .entry)) r (now (array .exit)) ⌝ }
 {
-    let kept = lines::kept_range(lines, e);
-    let from = kept.from;
-    let end = kept.end;
-    let rest = &lines[from..end];
-    let w = votes::winner_of(rest, e, row);
+    let n = lines::find_lines(s, scratch, array);
+    let m = lines::wide_gaps(&array[0..n], scratch);
+    if m == 0 {
+        return Remaining::Refused(6);
+    }
+    let e = lines::chosen_gap(&scratch[0..m]);
+    if e >= WIDE {
+        return Remaining::Refused(7);
+    }
+    let kept = lines::kept_range(&array[0..n], e);
+    Remaining::Lines {
+        from: kept.from,
+        end: kept.end,
+        e,
+    }
+}
+
+// The reading of the lines that remain. The row is scratch.
+fn read_lines(lines: &[u32], e: u32, row: &mut [u32]) -> Quarters
+    requires { ⌜ Readable e (now lines) (length (now row)) ⌝ }
+    ensures { λ r. ⌜ r ≡ accepted e (now (lines .entry)) ⌝ }
+{
+    let w = votes::winner_of(lines, e, row);
     Quarters::Read {
         quarter: w.quarter,
         offset: w.offset,
-        count: count_of(rest, w.quarter),
+        count: count_of(lines, w.quarter),
         votes: w.votes,
     }
 }
 
-// The lines are kept in an array of their own; the scratch serves the smoothed list, the gaps and the row of votes, one after the other.
+// The lines are kept in an array of their own; the scratch then serves the row of votes.
 pub fn quarters_of(s: &[u32], scratch: &mut [u32]) -> Quarters
     requires { ⌜ InLimits (now s) × (4 * length (now s) ≤ length (now scratch)) ⌝ }
     ensures { λ r. ⌜ r ≡ quartersOf (now (s .entry)) ⌝ }
 {
-    let mut found = [0u32; LONGEST];
-    let n = lines::find_lines(s, scratch, &mut found);
-    let m = lines::wide_gaps(&found[0..n], scratch);
-    if m == 0 {
-        return Quarters::Refused(6);
+    let mut array = [0u32; LONGEST];
+    match remaining_of(s, scratch, &mut array) {
+        Remaining::Lines { from, end, e } => read_lines(&array[from..end], e, scratch),
+        Remaining::Refused(n) => Quarters::Refused(n),
     }
-    let e = lines::estimate_of(&scratch[0..m]);
-    if e >= WIDE {
-        return Quarters::Refused(7);
-    }
-    read_lines(&found[0..n], e, scratch)
 }
 
 fn pitched_of(q: Quarters) -> Reading
@@ -110,24 +129,37 @@ fn pitched_of(q: Quarters) -> Reading
     }
 }
 
-// The scratch that is lent beyond 4·L entries is kept.
-pub fn get_line(list: &[u32], scratch: &mut [u32]) -> Reading
-    ensures reads { λ r. ⌜ r ≡ readingOf (now (list .entry)) (length (now (scratch .entry))) ⌝ }
-    ensures kept { λ _. ⌜ drop (4 * length (now (list .entry))) (now (scratch .exit)) ≡ drop (4 * length (now (list .entry))) (now (scratch .entry)) ⌝ }
+// The refusals that come before the lines, or 0. `scratch` is the number of its entries.
+fn line_answer(list: &[u32], scratch: usize) -> u32
+    ensures { λ r. ⌜ r ≡ lineAnswer (now (list .entry)) scratch ⌝ }
 {
     let n = list.len();
     if n < SHORTEST {
-        return Reading::Refused(1);
+        return 1;
     }
     if LONGEST < n {
-        return Reading::Refused(1);
+        return 1;
     }
     let room = 4 * n;
-    if scratch.len() < room {
-        return Reading::Refused(3);
+    if scratch < room {
+        return 3;
     }
     if HIGHEST < lines::largest_of(list) {
-        return Reading::Refused(11);
+        return 11;
     }
+    0
+}
+
+// The scratch that is lent beyond 4·L entries is kept.
+pub fn get_line(list: &[u32], scratch: &mut [u32]) -> Reading
+    ensures reads { λ r. ⌜ r ≡ readingOf (now (list .entry)) (length (now (scratch .entry))) ⌝ }
+    ensures kept { λ _. ⌜ KeptBeyond (now (list .entry)) (now (scratch .entry)) (now (scratch .exit)) ⌝ }
+{
+    let len = scratch.len();
+    let answer = line_answer(list, len);
+    if answer != 0 {
+        return Reading::Refused(answer);
+    }
+    let room = 4 * list.len();
     pitched_of(quarters_of(list, &mut scratch[..room]))
 }

@@ -1,52 +1,30 @@
--- `reading::read_lines` meets its contract: the part of the lines is the list of those that remain.
+-- `reading::read_lines` meets its contract: what is asked of the lines is what the search and the count ask for.
 use Rattle.reading.proofs.Laws.{readable-low}
 use borrow.Author.Needs.{needs}
 use Rattle.reading.proofs.read_lines.Statement.{statement}
 use Rattle.reading.proofs.read_lines.Tie as tie
 
-kept-range-requires : tie.Need-kept-range-requires
-kept-range-requires c κs = search needs
+-- the places that the others follow
+abbrev start : tie.After-winner-of-arg → tie.Start
+start c = c .before .before .before
 
-mul-rest : tie.Need-mul-rest
-mul-rest c = search needs
-
-sub-rest : tie.Need-sub-rest
-sub-rest c = search needs
-
-part-rest-start : tie.Need-part-rest-start
-part-rest-start c = search needs
-
-part-rest-end : tie.Need-part-rest-end
-part-rest-end c = search needs
+abbrev at-winner : tie.After-slice-known2 → tie.After-winner-of
+at-winner c = c .before .before
 
 winner-of-requires : tie.Need-winner-of-requires
-winner-of-requires c κs =
-    let asked = c .before .before .before .before .before .pre .1 in
-    rw (c .before .before .kept-range .ensures .is) ((asked .some, asked .few, asked .entries), asked .row)
+winner-of-requires c κs = let asked = start c .pre in ((asked .some, asked .few, asked .entries), asked .row)
 
 count-of-requires : tie.Need-count-of-requires
 count-of-requires c κs =
-    let asked = c .before .before .before .before .before .before .before .before .pre .1 in
-    rw (c .before .before .winner-of .ensures, c .before .before .before .before .before .kept-range .ensures .is)
-    ((readable-low asked, asked .some, asked .entries), asked .rising)
+    let won = at-winner c in
+    let asked = start (won .before) .pre in
+    rw (won .winner-of .ensures) ((readable-low asked, asked .some, asked .entries), asked .rising)
 
 same-length : tie.Need-same-length
 same-length c = search needs
 
 returns : tie.Need-returns
-returns c =
-    rw (c .count-of .ensures, c .before .before .before .winner-of .ensures, c .before .before .before .before .before .before .kept-range .ensures .is)
+returns c = rw (c .count-of .ensures, at-winner (c .before) .winner-of .ensures)
 
 pub read-lines-spec : {M : Type 1} → statement M
-read-lines-spec =
-    tie.close
-    (tie.spec
-    kept-range-requires
-    mul-rest
-    sub-rest
-    part-rest-start
-    part-rest-end
-    winner-of-requires
-    count-of-requires
-    same-length
-    returns)
+read-lines-spec = tie.close (tie.spec winner-of-requires count-of-requires same-length returns)
