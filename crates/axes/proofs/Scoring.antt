@@ -1,12 +1,12 @@
 -- The score lists of both axes in one slice, each of which can be read, and the numbers of a reading. Assumes nothing.
 use Prim.Native.Nat.{ℕ, _+_, _-_, _≤_}
-use mathlib.Core.Path.{_≡_, ap, _∙_}
+use mathlib.Core.Path.{_≡_, sym, ap, _∙_}
 use mathlib.Core.Bool.{Bool}
 use mathlib.Core.List.{List, _++_, append-assoc}
 use native.Mathlib.Omega.{arith}
 use lib.ListN.{length, take, drop}
 use lib.Seq.{take-at, drop-at}
-use Rattle.lists.specs.Front.{AtFront, over}
+use Rattle.lists.specs.Front.{AtFront}
 use Rattle.lists.specs.Picture.{flip}
 use Rattle.board.specs.declared.Bounds.{Bounds}
 use Rattle.strips.specs.Strip.{placeCount, scores, columnScores, rowScores}
@@ -19,7 +19,7 @@ use Rattle.votes.proofs.Row.{votes-few}
 use Rattle.lines.specs.Lines.{linesOf, estimate}
 use Rattle.reading.specs.Reading.{remaining, quartersOf}
 use Rattle.reading.proofs.Laws.{by-outcome, readable-wins}
-use Rattle.axes.specs.Axes.{bothCounts, Short}
+use Rattle.axes.specs.Axes.{Short}
 
 -- a score list can be read
 pub scores-fit : (E : ℕ → ℕ → Bool) (from to c₁ c₂ : ℕ) → c₁ + 4 ≤ c₂ → c₂ ≤ 4095 → to ≤ 4096 → InLimits (scores E from to c₁ c₂)
@@ -52,19 +52,21 @@ module _ (E : ℕ → ℕ → Bool) (b : Bounds) {before after : List ℕ} (x : 
   is : after ≡ columnScores E b ++ (rowScores E b ++ drop (length (columnScores E b ++ rowScores E b)) before)
   is = x .is ∙ append-assoc (columnScores E b) (rowScores E b) _
 
-  pub across-part : take (placeCount (b .«c_1») (b .«c_2»)) after ≡ columnScores E b
-  across-part = rw is (take-at (columnScores E b) _ _ across-length)
+  -- the parts by their numbers of entries
+  module _ {n m : ℕ} (across : n ≡ placeCount (b .«c_1») (b .«c_2»)) (down : m ≡ placeCount (b .«r_1») (b .«r_2»)) where
+    pub across-part : take n after ≡ columnScores E b
+    across-part = rw is (take-at (columnScores E b) _ n (across-length ∙ sym across))
 
-  pub down-part : take (bothCounts b - placeCount (b .«c_1») (b .«c_2»)) (drop (placeCount (b .«c_1») (b .«c_2»)) after) ≡ rowScores E b
-  down-part =
-      let n : bothCounts b - placeCount (b .«c_1») (b .«c_2») ≡ placeCount (b .«r_1») (b .«r_2») = omega arith in
-      rw (n, is, drop-at (columnScores E b) _ _ across-length) (take-at (rowScores E b) _ _ down-length)
+    pub down-part : take (n + m - n) (drop n after) ≡ rowScores E b
+    down-part =
+        let k : n + m - n ≡ m = omega arith in
+        rw (k, is, drop-at (columnScores E b) _ n (across-length ∙ sym across)) (take-at (rowScores E b) _ m (down-length ∙ sym down))
 
-  pub across-in : length (take (placeCount (b .«c_1») (b .«c_2»)) after) ≡ placeCount (b .«c_1») (b .«c_2»)
-  across-in = ap length across-part ∙ across-length
+    pub across-in : length (take n after) ≡ n
+    across-in = ap length across-part ∙ across-length ∙ sym across
 
-  pub down-in : length (take (bothCounts b - placeCount (b .«c_1») (b .«c_2»)) (drop (placeCount (b .«c_1») (b .«c_2»)) after)) ≡ placeCount (b .«r_1») (b .«r_2»)
-  down-in = ap length down-part ∙ down-length
+    pub down-in : length (take (n + m - n) (drop n after)) ≡ m
+    down-in = ap length down-part ∙ down-length ∙ sym down
 
   -- both can be read
   module _ {edges : List ℕ} {stride : ℕ} (s : Scorable edges stride b) where

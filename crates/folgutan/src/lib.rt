@@ -66,7 +66,15 @@ pub extern "C" fn folgutan_locate(
         (now («scratch_f32» .exit)) (now («scratch_u8» .exit)) (now («scratch_u32» .exit)) in
         ⌜ LocateGives b before r after × Promise b before r after ⌝ }
 {
-    locate::get_pos_pixel(b, planes, edges, scores, scratch_f32, scratch_u8, scratch_u32)
+    locate::get_pos_pixel(
+        b,
+        planes,
+        edges,
+        scores,
+        scratch_f32,
+        scratch_u8,
+        scratch_u32,
+    )
 }
 
 #[no_mangle]

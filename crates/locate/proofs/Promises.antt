@@ -13,7 +13,7 @@ use Rattle.lists.proofs.Front.{front-within}
 use Rattle.board.specs.declared.Board.{Board}
 use Rattle.board.specs.Board.{resized}
 use Rattle.strips.specs.Strip.{places, columnScores, rowScores}
-use Rattle.strips.proofs.Scores.{length-scores}
+use Rattle.strips.proofs.Scores.{count-is, length-scores}
 use Rattle.reading.specs.declared.Quarters.{Quarters}
 use Rattle.reading.specs.declared.Quarters.the-variants.{Read, Refused}
 use Rattle.reading.specs.Reading.{quartersOf}
@@ -30,10 +30,10 @@ use Rattle.locate.proofs.Unbeaten.{unbeaten}
 
 module _ (g : Reference) (s : Scored g) where
   columns-long : length (g .columns) ≡ length (places (g .bounds .«c_1») (g .bounds .«c_2»))
-  columns-long = rw (s .columns-are) (length-scores (g .picture) _ _ _ _)
+  columns-long = rw (s .columns-are) (length-scores (g .picture) _ _ _ _ ∙ count-is (g .bounds .«c_1») (g .bounds .«c_2»))
 
   rows-long : length (g .rows) ≡ length (places (g .bounds .«r_1») (g .bounds .«r_2»))
-  rows-long = rw (s .rows-are) (length-scores _ _ _ _ _)
+  rows-long = rw (s .rows-are) (length-scores _ _ _ _ _ ∙ count-is (g .bounds .«r_1») (g .bounds .«r_2»))
 
   columns-fit : InLimits (g .columns)
   columns-fit = rw (s .columns-are) (scores-fit (g .picture) _ _ _ _ (s .columns-wide) (omega (arith, s .columns-end)) (omega (arith, s .rows-end)))
@@ -58,9 +58,9 @@ module _ (g : Reference) (s : Scored g) where
           left-is = refl;
           rows-are = rw down;
           columns-are = rw across;
-          across = unbeaten (columnAxis g) (s .columns-are) (s .columns-wide) _ q offset count voted columns-fit
+          across = unbeaten (columnAxis g) (s .columns-are) _ q offset count voted columns-fit
               (λ i l. across-entry i (rw columns-long l)) across;
-          down = unbeaten (rowAxis g) (s .rows-are) (s .rows-wide) _ q' offset' count' voted' rows-fit
+          down = unbeaten (rowAxis g) (s .rows-are) _ q' offset' count' voted' rows-fit
               (λ i l. down-entry i (rw rows-long l)) down;
         }
 

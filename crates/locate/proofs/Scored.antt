@@ -6,6 +6,7 @@ use mathlib.Core.Bool.{false}
 use mathlib.Core.List.{List}
 use native.Mathlib.Omega.{arith}
 use lib.Ieee.{Float}
+use lib.ListN.{length}
 use Rattle.board.specs.Board.{leastSide}
 use Rattle.board.specs.Planes.{FitPlanes}
 use Rattle.bounds.proofs.Laws.{Wide, within, wide}
@@ -35,7 +36,7 @@ module _ (h w : ℕ) (planes : List Float) where
     abbrev l : Stage
     l = lastOf 3 h w planes .stage
 
-    pub sound : Sound h w _ l
+    pub sound : Sound h w (length planes) l
     sound = last-sound 3 two h w planes f ends .0
 
     pub not-thin : thin (l .height) (l .width) (boundsIn l) ≡ false

@@ -1,11 +1,11 @@
 -- One axis of the promise: an accepted reading of its scores is unbeaten. Assumes nothing.
-use Prim.Native.Nat.{ℕ, _+_, _≤_, _<_}
+use Prim.Native.Nat.{ℕ, _<_}
 use mathlib.Core.Path.{_≡_, refl, _∙_}
 use lib.ListN.{length, getD}
 use Rattle.lanes.specs.Score.{score}
 use Rattle.lanes.proofs.Walks.{no-better, attained}
 use Rattle.strips.specs.Strip.{places, scores}
-use Rattle.strips.proofs.Scores.{score-at, place-lane}
+use Rattle.strips.proofs.Scores.{count-is, score-at, place-lane}
 use Rattle.lines.specs.Lines.{InLimits}
 use Rattle.reading.specs.declared.Quarters.the-variants.{Read}
 use Rattle.reading.specs.Reading.{pitchOf, quartersOf}
@@ -13,7 +13,7 @@ use Rattle.reading.proofs.Laws.{won}
 use Rattle.locate.specs.Reference.{Axis}
 use Rattle.locate.specs.Promise.{Unbeaten, placeAt}
 
-module _ (a : Axis) (is : a .scores ≡ scores (a .picture) (a .from) (a .to) (a .low) (a .high)) (span : a .low + 4 ≤ a .high) where
+module _ (a : Axis) (is : a .scores ≡ scores (a .picture) (a .from) (a .to) (a .low) (a .high)) where
   pub unbeaten : (entry : ℕ → ℕ) (q offset count voted : ℕ) → InLimits (a .scores)
       → ((i : ℕ) → i < length (places (a .low) (a .high)) → entry i ≡ getD (a .scores) i 0)
       → quartersOf (a .scores) ≡ Read q offset count voted
@@ -28,4 +28,4 @@ module _ (a : Axis) (is : a .scores ≡ scores (a .picture) (a .from) (a .to) (a
     where
       -- the entry of a place is its score
       here : (i : ℕ) → i < length (places (a .low) (a .high)) → entry i ≡ score (a .picture) (a .from) (a .to) (placeAt a i)
-      here i l = same i l ∙ rw is (score-at (a .picture) (a .from) (a .to) (a .low) (a .high) i span l)
+      here i l = same i l ∙ rw is (score-at (a .picture) (a .from) (a .to) (a .low) (a .high) i (rw (count-is (a .low) (a .high)) l))

@@ -6,8 +6,9 @@ use mathlib.Core.List.{List}
 use lib.Ieee.{Float}
 use lib.ListN.{length, getD}
 use Rattle.board.specs.declared.Board.{Board}
-use Rattle.strips.specs.Walk.{Walk, ends, Scores, ScoresAtMost}
-use Rattle.strips.specs.Strip.{Place, at, places, onStrip}
+use Rattle.lanes.specs.Walk.{Walk, ends, Scores, ScoresAtMost}
+use Rattle.strips.specs.Strip.{places}
+use Rattle.lanes.specs.Score.{Place, at, onStrip}
 use Rattle.votes.specs.Votes.{Wins}
 use Rattle.lines.specs.Lines.{linesOf, estimate}
 use Rattle.reading.specs.declared.Quarters.{Quarters}

@@ -32,7 +32,7 @@ pub struct Located {
 }
 
 // An accepted reading of one axis.
-struct Accepted {
+struct AxisReading {
     quarter: usize,
     offset: usize,
     count: usize,
@@ -115,7 +115,7 @@ fn declined(b: Board, answer: u32, narrowed: u32) -> Located
     }
 }
 
-fn spacing(a: Accepted) -> Spacing
+fn spacing(a: AxisReading) -> Spacing
     requires { ⌜ a .quarter ≤ 800 ⌝ }
     ensures { λ r. ⌜ r ≡ Spec.spacing (a .quarter) (a .offset) (a .count) ⌝ }
 {
@@ -127,7 +127,13 @@ fn spacing(a: Accepted) -> Spacing
 }
 
 // A record of an accepted board.
-fn accepted(b: Board, narrowed: u32, bounds: Bounds, columns: Accepted, rows: Accepted) -> Located
+fn accepted(
+    b: Board,
+    narrowed: u32,
+    bounds: Bounds,
+    columns: AxisReading,
+    rows: AxisReading,
+) -> Located
     requires { ⌜ (columns .quarter ≤ 800) × (columns .votes ≤ 4194304) × (rows .quarter ≤ 800) × (rows .votes ≤ 4194304) ⌝ }
     ensures { λ r.
         let across = Quarters.Read (columns .quarter) (columns .offset) (columns .count) (columns .votes) in
@@ -169,13 +175,13 @@ fn joined(b: Board, narrowed: u32, bounds: Bounds, columns: Quarters, rows: Quar
                 b,
                 narrowed,
                 bounds,
-                Accepted {
+                AxisReading {
                     quarter: quarter,
                     offset: offset,
                     count: count,
                     votes: votes,
                 },
-                Accepted {
+                AxisReading {
                     quarter: q,
                     offset: o,
                     count: k,

@@ -1,6 +1,6 @@
 -- The loop of narrowings, over the factor: what passes on from screen to screen, one induction for where it ends, and what holds before each turn of
 -- the code's loop. Assumes nothing.
-use Prim.Native.Nat.{ℕ, zero, suc, _+_, _-_, _*_, _/_, _≤_}
+use Prim.Native.Nat.{ℕ, zero, suc, _+_, _-_, _*_, _/_, _≤_, _<_}
 use mathlib.Core.Path.{_≡_, refl, _∙_}
 use mathlib.Core.Bool.{Bool, true, false, cond, true≢false}
 use mathlib.Core.List.{List}
@@ -30,11 +30,11 @@ large h w e =
     (omega (arith, leb-false (h - 2) 64 (a .0)), omega (arith, leb-false (w - 2) 64 (a .1)))
 
 -- spans of bounds that are not thin
-pub spans : (h w : ℕ) (b : Bounds) → thin h w b ≡ false → ((h - 2) / 3 + 1 ≤ b .«r_2» - b .«r_1») × ((w - 2) / 3 + 1 ≤ b .«c_2» - b .«c_1»)
+pub spans : (h w : ℕ) (b : Bounds) → thin h w b ≡ false → ((h - 2) / 3 < b .«r_2» - b .«r_1») × ((w - 2) / 3 < b .«c_2» - b .«c_1»)
 unfolding thin
 spans h w b e =
     let a = neither (leb (b .«r_2» - b .«r_1») ((h - 2) / 3)) (leb (b .«c_2» - b .«c_1») ((w - 2) / 3)) e in
-    (omega (arith, leb-false (b .«r_2» - b .«r_1») ((h - 2) / 3) (a .0)), omega (arith, leb-false (b .«c_2» - b .«c_1») ((w - 2) / 3) (a .1)))
+    (leb-false (b .«r_2» - b .«r_1») ((h - 2) / 3) (a .0), leb-false (b .«c_2» - b .«c_1») ((w - 2) / 3) (a .1))
 
 -- what passes on: the planes are fit, the sides are within the first ones, and the slice is as long
 pub record Sound (h w long : ℕ) (s : Stage) : Type 0 where

@@ -1,7 +1,12 @@
--- `locate::read_from` meets its contract: the last bounds, widened, are fit for the scores.
-use mathlib.Core.Path.{sym}
+-- `locate::read_from` meets its contract: the last bounds, widened, are fit for the scores, and both axes are read over them.
+use Prim.Native.Nat.{ℕ}
+use mathlib.Core.Path.{_≡_, sym, ap, _∙_}
 use native.Mathlib.Omega.{arith}
-use Rattle.locate.proofs.Leading.{first-length, rows-in, scorable, bytes-room, scores-room}
+use denote.Ref.{now}
+use lib.ListN.{length}
+use Rattle.axes.proofs.Scoring.{across-fit, down-fit, quarters-short}
+use Rattle.locate.specs.Steps.{Leads}
+use Rattle.locate.proofs.Leading.{picture-length, rows-in, scorable, room-for}
 use borrow.Author.Needs.{needs}
 use Rattle.locate.proofs.read_from.Statement.{statement}
 use Rattle.locate.proofs.read_from.Tie as tie
@@ -16,7 +21,7 @@ mul-n : tie.Need-mul-n
 mul-n c = search needs
 
 slice-aggregate-widen : tie.Need-slice-aggregate-widen
-slice-aggregate-widen c = sym (first-length (c .before .before .before .before .before .before .before .pre))
+slice-aggregate-widen c = sym (picture-length (c .before .before .before .before .before .before .before .pre))
 
 sub-widen : tie.Need-sub-widen
 sub-widen c = search needs
@@ -25,21 +30,32 @@ sub-widen-2 : tie.Need-sub-widen-2
 sub-widen-2 c = search needs
 
 widen-requires : tie.Need-widen-requires
-widen-requires c κs =
+widen-requires c κs = 
     let g = c .before .before .before .before .before .before .before .before .before .pre in
-    (omega (arith, g .low-h), omega (arith, g .high-h, g .high), omega (arith, g .low-w), omega (arith, g .high-w, g .wide), omega (arith, g .high-w), rows-in g, g .within)
+    (
+      omega (arith, g .low-h),
+      omega (arith, g .high-h, g .high),
+      omega (arith, g .low-w),
+      omega (arith, g .high-w, g .wide),
+      omega (arith, g .high-w),
+      rows-in g,
+      g .within,
+    )
+
+slice-aggregate-read-axes : tie.Need-slice-aggregate-read-axes
+slice-aggregate-read-axes c = sym (picture-length (c .before .before .before .before .before .before .before .before .before .before .before .pre))
+
+read-axes-requires : tie.Need-read-axes-requires
+read-axes-requires c κs = 
+    let g = c .before .before .before .before .before .before .before .before .before .before .before .before .before .before .pre in
+    let e = c .before .before .before .before .widen .ensures in
+    (rw e (scorable g), rw e (room-for g))
 
 resized-requires : tie.Need-resized-requires
 resized-requires c κs = search needs
 
-slice-aggregate-read-on : tie.Need-slice-aggregate-read-on
-slice-aggregate-read-on c = sym (first-length (c .before .before .before .before .before .before .before .before .before .before .before .before .pre))
-
-read-on-requires : tie.Need-read-on-requires
-read-on-requires c κs =
-    let g = c .before .before .before .before .before .before .before .before .before .before .before .before .before .before .before .pre in
-    let e = c .before .before .before .before .before .widen .ensures in
-    ((rw e (scorable g), rw e (bytes-room g)), (rw e (omega (arith, scores-room g, g .scores-in)), rw e (omega (arith, scores-room g, g .words-in))))
+joined-requires : tie.Need-joined-requires
+joined-requires c κs = ?
 
 same-length : tie.Need-same-length
 same-length c = search needs
@@ -51,7 +67,7 @@ same-length-3 : tie.Need-same-length-3
 same-length-3 c = search needs
 
 returns : tie.Need-returns
-returns c = rw (c .before .before .before .before .before .before .before .before .before .before .before .before .widen .ensures, c .before .before .before .before .before .before .before .before .before .before .before .resized .ensures) at (c .before .before .before .before .before .before .read-on .ensures)
+returns c = ?
 
 pub read-from-spec : {M : Type 1} → statement M
 read-from-spec =
@@ -64,9 +80,10 @@ read-from-spec =
     sub-widen
     sub-widen-2
     widen-requires
+    slice-aggregate-read-axes
+    read-axes-requires
     resized-requires
-    slice-aggregate-read-on
-    read-on-requires
+    joined-requires
     same-length
     same-length-2
     same-length-3

@@ -1,18 +1,16 @@
--- `locate::score_all` meets its contract: the row scores go into the part behind the column scores.
-use denote.Ref.{now}
-use Rattle.lists.specs.Picture.{points}
-use Rattle.lists.proofs.Part.{put-behind}
-use Rattle.strips.specs.Strip.{columnScores, rowScores}
+-- `axes::score_all` meets its contract: the row scores go to the front of the part behind the column scores.
+use mathlib.Core.Path.{_∙_, sym}
+use Rattle.lists.proofs.Front.{front-behind}
 use Rattle.strips.proofs.Scores.{length-scores}
 use borrow.Author.Needs.{needs}
-use Rattle.locate.proofs.score_all.Statement.{statement}
-use Rattle.locate.proofs.score_all.Tie as tie
+use Rattle.axes.proofs.score_all.Statement.{statement}
+use Rattle.axes.proofs.score_all.Tie as tie
 
 column-scores-requires : tie.Need-column-scores-requires
 column-scores-requires c κs = search needs
 
-sub-from : tie.Need-sub-from
-sub-from c = search needs
+place-count-requires : tie.Need-place-count-requires
+place-count-requires c κs = search needs
 
 mul-row-scores : tie.Need-mul-row-scores
 mul-row-scores c = search needs
@@ -37,16 +35,16 @@ same-length-2 c = search needs
 
 returns : tie.Need-returns
 returns c =
-    let a = c .before .before .before .before .before .before .before .before .before .before .before .before .before .before .before .args in
-    let E = points (a .stride) 1 (now (a .edges)) in
-    put-behind _ _ (columnScores E (a .b)) (rowScores E (a .b)) (now (a .scores)) (length-scores E _ _ _ _ (c .before .before .before .before .before .before .before .before .before .before .before .before .before .before .before .pre .0 .0 .columns)) (c .before .before .before .before .before .before .before .before .before .before .column-scores .ensures) (c .before .before .before .before .row-scores .ensures)
+    let columns = c .before .before .before .before .before .before .before .before .before .before in
+    let count = c .before .before .before .before .before .before .before .place-count .ensures in
+    front-behind _ (length-scores _ _ _ _ _ ∙ sym count) (columns .column-scores .ensures) (c .before .before .before .before .row-scores .ensures)
 
 pub score-all-spec : {M : Type 1} → statement M
 score-all-spec =
     tie.close
     (tie.spec
     column-scores-requires
-    sub-from
+    place-count-requires
     mul-row-scores
     sub-row-scores
     part-row-scores-start
