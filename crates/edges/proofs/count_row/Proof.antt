@@ -17,6 +17,13 @@ Inv-loop g from n bits v count₀ k₀ count k = (k ≤ n) × Counted bits (λ j
 abbrev μ-loop : tie.MeasureT-loop
 μ-loop g from n bits v count₀ k₀ count k = n - k
 
+-- the places that the others follow
+abbrev at-turn : tie.After-at-most Inv-loop μ-loop → tie.At-loop Inv-loop μ-loop
+at-turn c = c .before .before .before
+
+abbrev at-start : tie.At-loop Inv-loop μ-loop → tie.Start Inv-loop μ-loop
+at-start c = c .before .before
+
 float-from-bits-v : tie.Need-float-from-bits-v Inv-loop μ-loop
 float-from-bits-v c = rw (bits-number _ (c .before .pre .0 .2)) tt
 
@@ -40,11 +47,12 @@ cast-count c = search needs
 
 -- the count with one value more
 here : (c : tie.After-at-most Inv-loop μ-loop)
-    → let a = c .before .before .before .before .before .args in let at = c .before .before .before .loop in
+    → let a = at-start (at-turn c) .args in
+    let at = at-turn c .loop in
     Counted (a .bits) (λ j. getD (now (a .g)) (a .from + j) nan) (at .k + 1) (at .count + c .at-most .result)
 here c =
-    let s = c .before .before .before .before .before in
-    let at = c .before .before .before .loop in
+    let s = at-start (at-turn c) in
+    let at = at-turn c .loop in
     let p = bits-plain _ (c .before .shared-slice-known2 .given (s .args .from + at .k)) (s .pre .1 _ (omega arith)) in
     counted-more (at .inv .1) (s .pre .0 .2) p (c .at-most .ensures)
 
@@ -61,7 +69,7 @@ loop-again : tie.Need-loop-again Inv-loop μ-loop
 loop-again c = (omega arith, here c)
 
 returns : tie.Need-returns Inv-loop μ-loop
-returns c = let e : c .before .loop .k ≡ c .before .before .before .args .n = omega arith in rw e at (c .before .loop .inv .1 .is)
+returns c = let e : c .before .loop .k ≡ at-start (c .before) .args .n = omega arith in rw e at (c .before .loop .inv .1 .is)
 
 pub count-row-spec : {M : Type 1} → statement M
 count-row-spec =

@@ -8,6 +8,10 @@ use borrow.Author.Needs.{needs}
 use Rattle.gradient.proofs.slope.Statement.{statement}
 use Rattle.gradient.proofs.slope.Tie as tie
 
+-- the place that the others follow
+abbrev at-start : tie.After-difference → tie.Start
+at-start c = c .before .before .before .before .before .before .before .before
+
 mul-low : tie.Need-mul-low
 mul-low c = search needs
 
@@ -73,15 +77,15 @@ difference-requires c κs = search needs
 
 -- the difference of the six values is the sum of the square
 summed : (c : tie.After-difference)
-    → let a = c .before .before .before .before .before .before .before .before .args in
+    → let a = at-start c .args in
     c .difference .result ≡ rowSum (square (now (a .p)) (a .at) (a .down) (a .right)) 0 0
 summed c =
-    let a = c .before .before .before .before .before .before .before .before .args in
+    let a = at-start c .args in
     c .difference .ensures ∙ square-sum (now (a .p)) (a .at) (a .down) (a .right)
 
 magnitude-requires : tie.Need-magnitude-requires
 magnitude-requires c κs =
-    let s = c .before .before .before .before .before .before .before .before in
+    let s = at-start c in
     rw (summed c) (square-number (now (s .args .p)) _ _ _ (s .pre .1))
 
 returns : tie.Need-returns
