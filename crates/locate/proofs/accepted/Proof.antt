@@ -25,7 +25,9 @@ cast-t12 : tie.Need-cast-t12
 cast-t12 c = search needs
 
 returns : tie.Need-returns
-returns c = let with = c .before .before .before .before in rw (with .before .before .spacing .ensures, with .before .spacing2 .ensures) at (with .with-reading .ensures)
+returns c =
+    let with = c .before .before .before .before in
+    rw (with .with-reading .ensures, with .before .before .spacing .ensures, with .before .spacing2 .ensures)
 
 pub accepted-spec : {M : Type 1} → statement M
 accepted-spec =

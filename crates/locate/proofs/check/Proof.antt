@@ -14,7 +14,7 @@ planes-answer-requires : tie.Need-planes-answer-requires
 planes-answer-requires c κs = search needs
 
 returns : tie.Need-returns
-returns c = 
+returns c =
     let short = c .before .slices-short .ensures in
     c .planes-answer .ensures ∙ answer-same _ _ _ _ _ _ (λ e. short e ∙ short-same _ _ (lent _ _ _ _ _ _))
 

@@ -1,115 +1,138 @@
+-- `locate::get_pos_pixel` meets its contract, the promise with it: a refusal by the checks, or the work on scratch of 01's lengths.
+use mathlib.Core.Path.{_≡_, refl, sym, _∙_}
+use native.Mathlib.Omega.{arith}
+use denote.Ref.{now}
+use lib.ListN.{length, length-take}
+use lib.Seq.{drop-at, length-take-le}
+use Rattle.board.specs.declared.Board.{Board}
+use Rattle.board.specs.Board.{leastSide}
+use Rattle.board.specs.Planes.{FitPlanes}
+use Rattle.locate.specs.Locate.{Lent, lent, checked}
+use Rattle.locate.specs.Steps.{Room}
+use Rattle.locate.proofs.Checks.{fit}
+use Rattle.locate.proofs.Working.{refuses, accepts}
 use borrow.Author.Needs.{needs}
 use Rattle.locate.proofs.get_pos_pixel.Statement.{statement}
 use Rattle.locate.proofs.get_pos_pixel.Tie as tie
-use Rattle.locate.proofs.get_pos_pixel.Reads as reads
-use Rattle.locate.proofs.get_pos_pixel.Lts as lts
-use Rattle.locate.proofs.check.Reads as check-reads
-use Rattle.locate.proofs.declined.Reads as declined-reads
-use Rattle.locate.proofs.work.Reads as work-reads
 
--- src/lib.rt:271:9
+-- after the checks: what was handed in
+abbrev board : tie.After-check → Board
+board c = c .before .before .before .before .before .before .before .before .before .before .before .before .before .args .b
+
+abbrev slices : tie.After-check → Lent
+slices c =
+    let a = c .before .before .before .before .before .before .before .before .before .before .before .before .before .args in
+    lent (now (a .planes)) (now (a .edges)) (now (a .scores)) (now (a .scratch-f32)) (now (a .scratch-u8)) (now (a .scratch-u32))
+
+-- the checks passed
+passed : (c : tie.Else1) → checked (board (c .before)) (slices (c .before)) ≡ 0
+passed c = sym (c .before .check .ensures) ∙ c .if1 .left
+
+fits : (c : tie.Else1) → FitPlanes leastSide (board (c .before) .height) (board (c .before) .width) (slices (c .before) .planes)
+fits c = fit (board (c .before)) (slices (c .before)) (passed c) .0
+
+room : (c : tie.Else1) → Room (board (c .before) .height) (board (c .before) .width) (slices (c .before))
+room c = fit (board (c .before)) (slices (c .before)) (passed c) .1
+
 check-requires : tie.Need-check-requires
 check-requires c κs = search needs
 
--- src/lib.rt:281:9
 declined-requires : tie.Need-declined-requires
 declined-requires c κs = search needs
 
--- src/lib.rt:281:9
 same-length : tie.Need-same-length
 same-length c = search needs
 
--- src/lib.rt:281:9
 same-length-2 : tie.Need-same-length-2
 same-length-2 c = search needs
 
--- src/lib.rt:281:9
 same-length-3 : tie.Need-same-length-3
 same-length-3 c = search needs
 
--- src/lib.rt:281:9
 same-length-4 : tie.Need-same-length-4
 same-length-4 c = search needs
 
--- src/lib.rt:281:9
 same-length-5 : tie.Need-same-length-5
 same-length-5 c = search needs
 
--- src/lib.rt:281:9
 same-length-6 : tie.Need-same-length-6
 same-length-6 c = search needs
 
--- src/lib.rt:281:9
 returns : tie.Need-returns
-returns c = ?
+returns c = let at = c .before .before in refuses (board at) (slices at) _ (at .check .ensures) (c .before .if1 .taken) (c .declined .ensures)
 
--- src/lib.rt:283:13
 mul-n : tie.Need-mul-n
-mul-n c = ?
+mul-n c = omega (arith, fits (c .before) .sides .area)
 
--- src/lib.rt:284:18
 add-m : tie.Need-add-m
-add-m c = ?
+add-m c = let s = fits (c .before .before) .sides in omega (arith, s .high-h, s .high-w)
 
--- src/lib.rt:284:13
 mul-m : tie.Need-mul-m
-mul-m c = ?
+mul-m c = let s = fits (c .before .before) .sides in omega (arith, s .high-h, s .high-w)
 
--- src/lib.rt:290:9
 slice-relend-prefix-work : tie.Need-slice-relend-prefix-work
-slice-relend-prefix-work c = ?
+slice-relend-prefix-work c = omega (arith, room (c .before .before .before .before .before) .f32-in)
 
--- src/lib.rt:290:9
 slice-aggregate-work : tie.Need-slice-aggregate-work
-slice-aggregate-work c = ?
+slice-aggregate-work c = sym (length-take-le _ _ (omega (arith, room (c .before .before .before .before .before .before) .f32-in)))
 
--- src/lib.rt:291:9
 slice-relend-prefix-work-2 : tie.Need-slice-relend-prefix-work-2
-slice-relend-prefix-work-2 c = ?
+slice-relend-prefix-work-2 c = omega (arith, room (c .before .before .before .before .before .before) .u8-in)
 
--- src/lib.rt:291:9
 slice-aggregate-work-2 : tie.Need-slice-aggregate-work-2
-slice-aggregate-work-2 c = ?
+slice-aggregate-work-2 c = sym (length-take-le _ _ (omega (arith, room (c .before .before .before .before .before .before .before) .u8-in)))
 
--- src/lib.rt:292:9
 slice-relend-prefix-work-3 : tie.Need-slice-relend-prefix-work-3
-slice-relend-prefix-work-3 c = ?
+slice-relend-prefix-work-3 c = omega (arith, room (c .before .before .before .before .before .before .before) .u32-in)
 
--- src/lib.rt:292:9
 slice-aggregate-work-3 : tie.Need-slice-aggregate-work-3
-slice-aggregate-work-3 c = ?
+slice-aggregate-work-3 c = sym (length-take-le _ _ (omega (arith, room (c .before .before .before .before .before .before .before .before) .u32-in)))
 
--- src/lib.rt:285:5
 work-requires : tie.Need-work-requires
-work-requires c κs = ?
+work-requires c κs =
+    let at = c .before .before .before .before .before .before .before .before in
+    let r = room at in (
+      fits at,
+      record {
+        edges-in = r .edges-in;
+        scores-in = r .scores-in;
+        f32-in = simp length-take (omega (arith, r .f32-in));
+        u8-in = simp length-take (omega (arith, r .u8-in));
+        u32-in = simp length-take (omega (arith, r .u32-in));
+      },
+    )
 
--- src/lib.rt:255:1
 same-length-7 : tie.Need-same-length-7
 same-length-7 c = search needs
 
--- src/lib.rt:255:1
 same-length-8 : tie.Need-same-length-8
 same-length-8 c = search needs
 
--- src/lib.rt:255:1
 same-length-9 : tie.Need-same-length-9
 same-length-9 c = search needs
 
--- src/lib.rt:255:1
 same-length-10 : tie.Need-same-length-10
 same-length-10 c = search needs
 
--- src/lib.rt:255:1
 same-length-11 : tie.Need-same-length-11
 same-length-11 c = search needs
 
--- src/lib.rt:255:1
 same-length-12 : tie.Need-same-length-12
 same-length-12 c = search needs
 
--- src/lib.rt:255:1
 returns-2 : tie.Need-returns-2
-returns-2 c = ?
+returns-2 c =
+    let done = c .before .before .before .before .before .before .before .before .before .before .before .before in
+    let at = done .before .before .before .before .before .before .before .before .before in
+    let r = room at in
+    let after = done .work .last in
+    let same = done .work .kept in
+    accepts (board (at .before)) (slices (at .before)) _ _ _ (passed at) (done .work .ensures) refl refl refl refl refl refl
+    (record {
+      f32-kept = drop-at (after .1 .1 .1 .1 .0) _ _ (same .1 .1 .1 .1 .0 ∙ length-take-le _ _ (r .f32-in));
+      u8-kept = drop-at (after .1 .1 .1 .1 .1 .0) _ _ (same .1 .1 .1 .1 .1 .0 ∙ length-take-le _ _ (r .u8-in));
+      u32-kept = drop-at (after .1 .1 .1 .1 .1 .1 .0) _ _ (same .1 .1 .1 .1 .1 .1 .0 ∙ length-take-le _ _ (r .u32-in));
+    })
 
 pub get-pos-pixel-spec : {M : Type 1} → statement M
 get-pos-pixel-spec =

@@ -1,15 +1,22 @@
 -- `locate::read_from` meets its contract: the last bounds, widened, are fit for the scores, and both axes are read over them.
-use Prim.Native.Nat.{ℕ}
-use mathlib.Core.Path.{_≡_, sym, ap, _∙_}
+use Prim.Native.Nat.{_-_, _*_}
+use mathlib.Core.Path.{_≡_, sym}
 use native.Mathlib.Omega.{arith}
 use denote.Ref.{now}
-use lib.ListN.{length}
+use lib.ListN.{take}
 use Rattle.axes.proofs.Scoring.{across-fit, down-fit, quarters-short}
-use Rattle.locate.specs.Steps.{Leads}
+use Rattle.strips.specs.States.{Scorable}
 use Rattle.locate.proofs.Leading.{picture-length, rows-in, scorable, room-for}
 use borrow.Author.Needs.{needs}
 use Rattle.locate.proofs.read_from.Statement.{statement}
 use Rattle.locate.proofs.read_from.Tie as tie
+
+-- the widened bounds can be scored, and both lists be read
+abbrev at-widen : tie.After-read-axes → tie.After-widen
+at-widen c = c .before .before .before .before .before
+
+can-score : (c : tie.After-widen) → Scorable (take ((c .before .before .before .before .before .before .before .before .before .before .args .b .height - 2) * (c .before .before .before .before .before .before .before .before .before .before .args .b .width - 2)) (now (c .before .before .before .before .before .before .before .before .before .before .args .edges))) (c .before .before .before .before .before .before .before .before .before .before .args .b .width - 2) (c .widen .result)
+can-score c = rw (c .widen .ensures) (scorable (c .before .before .before .before .before .before .before .before .before .before .pre))
 
 sub-stride : tie.Need-sub-stride
 sub-stride c = search needs
@@ -30,9 +37,8 @@ sub-widen-2 : tie.Need-sub-widen-2
 sub-widen-2 c = search needs
 
 widen-requires : tie.Need-widen-requires
-widen-requires c κs = 
-    let g = c .before .before .before .before .before .before .before .before .before .pre in
-    (
+widen-requires c κs =
+    let g = c .before .before .before .before .before .before .before .before .before .pre in (
       omega (arith, g .low-h),
       omega (arith, g .high-h, g .high),
       omega (arith, g .low-w),
@@ -46,7 +52,7 @@ slice-aggregate-read-axes : tie.Need-slice-aggregate-read-axes
 slice-aggregate-read-axes c = sym (picture-length (c .before .before .before .before .before .before .before .before .before .before .before .pre))
 
 read-axes-requires : tie.Need-read-axes-requires
-read-axes-requires c κs = 
+read-axes-requires c κs =
     let g = c .before .before .before .before .before .before .before .before .before .before .before .before .before .before .pre in
     let e = c .before .before .before .before .widen .ensures in
     (rw e (scorable g), rw e (room-for g))
@@ -55,7 +61,13 @@ resized-requires : tie.Need-resized-requires
 resized-requires c κs = search needs
 
 joined-requires : tie.Need-joined-requires
-joined-requires c κs = ?
+joined-requires c κs =
+    let read = c .before .before .before .before .before .before .before in
+    let at = at-widen read in
+    let is = read .read-axes .ensures in (
+      rw (is .columns-are) (quarters-short _ (across-fit _ _ (is .scores-are) (can-score at))),
+      rw (is .rows-are) (quarters-short _ (down-fit _ _ (is .scores-are) (can-score at))),
+    )
 
 same-length : tie.Need-same-length
 same-length c = search needs
@@ -67,7 +79,14 @@ same-length-3 : tie.Need-same-length-3
 same-length-3 c = search needs
 
 returns : tie.Need-returns
-returns c = ?
+returns c =
+    let read = c .before .before .before .before .before .before .before .before in
+    let is = read .read-axes .ensures in
+    let wide = at-widen read .widen .ensures in
+    record {
+      located-is = rw (c .before .resized .ensures, is .columns-are, is .rows-are, wide) at (c .joined .ensures);
+      scores-are = rw wide at (is .scores-are);
+    }
 
 pub read-from-spec : {M : Type 1} → statement M
 read-from-spec =

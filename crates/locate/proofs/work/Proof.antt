@@ -1,81 +1,104 @@
+-- `locate::work` meets its contract: the first look, the loop of narrowings, and the two ways out of it.
+use mathlib.Core.Path.{_≡_}
+use native.Mathlib.Omega.{arith}
+use denote.Ref.{now}
+use lib.ListN.{length}
+use Rattle.board.specs.declared.Board.{Board}
+use Rattle.board.specs.Board.{leastSide, leastPlaneSide}
+use Rattle.board.specs.Planes.{FitPlanes}
+use Rattle.board.proofs.Planes.{fit-lower}
+use Rattle.narrowings.specs.Loop.{first, lastOf}
+use Rattle.narrowings.specs.Steps.{Looks, Narrows}
+use Rattle.locate.specs.Locate.{Lent, lent}
+use Rattle.locate.specs.Steps.{Room}
+use Rattle.locate.proofs.Working.{leads, works-small, works-read}
 use borrow.Author.Needs.{needs}
 use Rattle.locate.proofs.work.Statement.{statement}
 use Rattle.locate.proofs.work.Tie as tie
-use Rattle.locate.proofs.work.Reads as reads
-use Rattle.locate.proofs.work.Lts as lts
-use Rattle.board.proofs.Board.resized.Reads as resized-reads
-use Rattle.locate.proofs.declined.Reads as declined-reads
-use Rattle.locate.proofs.read_from.Reads as read-from-reads
-use Rattle.narrowings.proofs.look.Reads as look-reads
-use Rattle.narrowings.proofs.narrow_on.Reads as narrow-on-reads
 
--- src/lib.rt:246:9
+-- after the loop: what was handed in, what was asked, and what the look and the loop leave
+abbrev at-look : tie.After-narrow-on → tie.After-look
+at-look c = c .before .before .before .before .before .before .before .before
+
+abbrev board : tie.After-narrow-on → Board
+board c = c .before .before .before .before .before .before .before .before .before .before .before .before .before .before .before .before .before .before .args .b
+
+abbrev slices : tie.After-narrow-on → Lent
+slices c =
+    let a = c .before .before .before .before .before .before .before .before .before .before .before .before .before .before .before .before .before .before .args in
+    lent (now (a .planes)) (now (a .edges)) (now (a .scores)) (now (a .scratch-f32)) (now (a .scratch-u8)) (now (a .scratch-u32))
+
+fits : (c : tie.After-narrow-on) → FitPlanes leastSide (board c .height) (board c .width) (slices c .planes)
+fits c = c .before .before .before .before .before .before .before .before .before .before .before .before .before .before .before .before .before .before .pre .0
+
+room : (c : tie.After-narrow-on) → Room (board c .height) (board c .width) (slices c)
+room c = c .before .before .before .before .before .before .before .before .before .before .before .before .before .before .before .before .before .before .pre .1
+
+looks : (c : tie.After-narrow-on)
+    → Looks (first (board c .height) (board c .width) (slices c .planes)) (slices c .edges) (at-look c .look .result) (at-look c .look .last .1 .1 .1 .1 .0)
+looks c = at-look c .look .ensures
+
+narrows : (c : tie.After-narrow-on)
+    → Narrows (lastOf 3 (board c .height) (board c .width) (slices c .planes)) (c .narrow-on .result) (c .narrow-on .last .1 .1 .1 .0)
+narrows c = c .narrow-on .ensures
+
 look-requires : tie.Need-look-requires
-look-requires c κs = ?
+look-requires c κs = let ask = c .before .before .before .before .before .before .before .before .before .pre in (fit-lower leastPlaneSide (omega arith) (ask .0), (ask .1 .f32-in, ask .1 .edges-in))
 
--- src/lib.rt:247:9
 narrow-on-requires : tie.Need-narrow-on-requires
-narrow-on-requires c κs = ?
+narrow-on-requires c κs = let ask = c .before .before .before .before .before .before .before .before .before .before .before .before .before .before .before .before .before .pre in ((ask .0, c .before .before .before .before .before .before .before .look .ensures .bounds-are), (omega (arith, ask .1 .f32-in), ask .1 .u8-in))
 
--- src/lib.rt:249:25
 resized-requires : tie.Need-resized-requires
 resized-requires c κs = search needs
 
--- src/lib.rt:249:9
 declined-requires : tie.Need-declined-requires
 declined-requires c κs = search needs
 
--- src/lib.rt:249:9
 same-length : tie.Need-same-length
 same-length c = search needs
 
--- src/lib.rt:249:9
 same-length-2 : tie.Need-same-length-2
-same-length-2 c = ?
+same-length-2 c = search (needs, c .before .before .before .before .before .before .before .before .before .before .before .before .before .before .before .before .before .look .kept)
 
--- src/lib.rt:249:9
 same-length-3 : tie.Need-same-length-3
-same-length-3 c = ?
+same-length-3 c = search (needs, c .before .before .before .before .before .before .before .before .before .before .before .before .before .before .before .before .before .look .kept, c .before .before .before .before .before .before .before .before .before .narrow-on .kept)
 
--- src/lib.rt:249:9
 same-length-4 : tie.Need-same-length-4
 same-length-4 c = search needs
 
--- src/lib.rt:249:9
 returns : tie.Need-returns
-returns c = ?
+returns c =
+    let at = c .before .before .before .before .before .before .before .before .before in
+    works-small (board at) (slices at) (fits at) (room at) (looks at) (narrows at) _ _ _ (c .before .before .if1 .taken) (rw (c .before .resized .ensures) at (c .declined .ensures))
 
--- src/lib.rt:251:5
 read-from-requires : tie.Need-read-from-requires
-read-from-requires c κs = ?
+read-from-requires c κs =
+    let at = c .before .before .before .before .before .before .before .before .before .before .before in
+    let same : length (at .narrow-on .last .1 .1 .1 .1 .1 .0) ≡ length (slices at .scratch-u8) = omega (arith, at .narrow-on .kept) in
+    rw same (leads (board at) (slices at) (fits at) (room at) (looks at) (narrows at) (c .before .before .before .before .if1 .left))
 
--- src/lib.rt:225:1
 same-length-5 : tie.Need-same-length-5
 same-length-5 c = search needs
 
--- src/lib.rt:225:1
 same-length-6 : tie.Need-same-length-6
-same-length-6 c = ?
+same-length-6 c = search (needs, c .before .before .before .before .before .before .before .before .before .before .before .before .before .before .before .before .before .before .before .before .before .before .before .before .before .before .look .kept)
 
--- src/lib.rt:225:1
 same-length-7 : tie.Need-same-length-7
 same-length-7 c = search needs
 
--- src/lib.rt:225:1
 same-length-8 : tie.Need-same-length-8
-same-length-8 c = ?
+same-length-8 c = search (needs, c .before .before .before .before .before .before .before .before .before .before .before .before .before .before .before .before .before .before .before .before .before .before .before .before .before .before .look .kept, c .before .before .before .before .before .before .before .before .before .before .before .before .before .before .before .before .before .before .narrow-on .kept)
 
--- src/lib.rt:225:1
 same-length-9 : tie.Need-same-length-9
 same-length-9 c = search needs
 
--- src/lib.rt:225:1
 same-length-10 : tie.Need-same-length-10
 same-length-10 c = search needs
 
--- src/lib.rt:225:1
 returns-2 : tie.Need-returns-2
-returns-2 c = ?
+returns-2 c =
+    let at = c .before .before .before .before .before .before .before .before .before .before .before .before .before .before .before .before .before .before in
+    works-read (board at) (slices at) (fits at) (room at) (looks at) (narrows at) (c .before .before .before .before .before .before .before .before .before .before .before .if1 .left) _ _ _ (c .before .before .before .before .before .before .read-from .ensures)
 
 pub work-spec : {M : Type 1} → statement M
 work-spec =
