@@ -84,11 +84,13 @@ module _ (e : List ℕ) (down across from c k : ℕ) where
       rw i
 
   -- one row more
-  pub row-more : (t o : ℕ) (v w : Lanes) → k ≤ 4 → o ≡ (from + (t + 1)) * down + c * across → Walked (points down across e) from (at c k) t v →
+  pub row-more : (t o : ℕ) (v w : Lanes) → k ≤ 4 → o ≡ (from + (t + 1)) * down + c * across →
+      Walked (points down across e) from (at c k) t v →
       Advanced e o across v w → Walked (points down across e) from (at c k) (t + 1) w
   row-more t o v w l q h a =
       let low : Below (t + 5) (leastCost strip k t) = λ j b. omega (arith, least-cost-stays strip k t j) in
       let i : _≡_ {A = ℕ → ℕ} (λ j. unset e (o + j * across)) (λ j. bit (not (strip (suc t) j))) = fun-ext (λ j. point-at t o j q) in
       let n : t + 5 + 1 ≡ suc t + 5 = omega arith in
       rw (add-one t)
-      (subst (λ (u : ℕ → ℕ). LanesHold (suc t + 5) (onward (λ j. leastCost strip k t j + u j)) w) i (rw n at (a (t + 5) (leastCost strip k t) low h)))
+      (subst (λ (u : ℕ → ℕ). LanesHold (suc t + 5) (onward (λ j. leastCost strip k t j + u j)) w) i
+      (rw n at (a (t + 5) (leastCost strip k t) low h)))

@@ -81,7 +81,9 @@ module _ (paid : ℕ → ℕ) where
 -- on five lanes, `onward` looks at five
 onward-same : (p q : ℕ → ℕ) → ((i : ℕ) → i ≤ 4 → p i ≡ q i) → (j : ℕ) → j ≤ 4 → onward p j ≡ onward q j
 onward-same p q h zero l = rw (h 0 (omega arith), h 1 (omega arith))
-onward-same p q h (suc j) l = rw (h (suc j) l, h j (omega arith)) (ap (λ (r : ℕ). min (min (q (suc j)) (q j + 1)) r) (go (ltb (suc j) 4) refl))
+onward-same p q h (suc j) l =
+    rw (h (suc j) l, h j (omega arith))
+    (ap (λ (r : ℕ). min (min (q (suc j)) (q j + 1)) r) (go (ltb (suc j) 4) refl))
   where
     go : (s : Bool) → ltb (suc j) 4 ≡ s →
         cond (ltb (suc j) 4) (p (suc (suc j)) + 1) (q (suc j)) ≡ cond (ltb (suc j) 4) (q (suc (suc j)) + 1) (q (suc j))
@@ -128,7 +130,8 @@ module _ {n : ℕ} (w : Walk n) (j : ℕ) where
 
 module _ (set : ℕ → ℕ → Bool) (k : ℕ) where
   least-cost-most : (n : ℕ) (lane : ℕ → ℕ) →
-      ((t : ℕ) → t ≤ n → lane t ≤ 4) → ((t : ℕ) → t < n → apart (lane t) (lane (suc t)) ≤ 1) → leastCost set k n (lane n) ≤ costOf set k lane n
+      ((t : ℕ) → t ≤ n → lane t ≤ 4) → ((t : ℕ) → t < n → apart (lane t) (lane (suc t)) ≤ 1) →
+      leastCost set k n (lane n) ≤ costOf set k lane n
   least-cost-most zero lane on near = omega arith
   least-cost-most (suc n) lane on near =
       let paid : ℕ → ℕ = λ i. leastCost set k n i + bit (not (set (suc n) i)) in

@@ -1,3 +1,4 @@
 pub mod Walk
 pub mod Score
 pub mod States
+pub mod Sweep

@@ -1,13 +1,16 @@
-// One strip (01, "Path scores"): five lanes walked down row by row, and the score of a place. The promises rest on specs/Score and
-// specs/Walk. Laws for callers: proofs/Walks (a score is that of the best walk), proofs/States (one row more, and the target lane at the end).
+// Strips walked down row by row (01, "Path scores"): one by itself, and many side by side. The promises rest on specs/Score and specs/Walk.
+// Laws for callers: proofs/Walks (a score is that of the best walk), proofs/States (one row more, and the target lane at the end).
 // A lane's state is 5 and the steps so far, less the least cost: a set point adds 1, a sideways move takes 1 off, and none falls below 1.
 ghost use mathlib.Core.Path.{_≡_};
+ghost use mathlib.Core.Bool.{Bool};
 ghost use Prim.Native.Nat.{ℕ, _≤_, _<_, _+_, _*_, _-_, max};
-ghost use lib.ListN.{length};
+ghost use lib.ListN.{length, getD};
+ghost use Rattle.lists.specs.Tab.{tab};
 ghost use Rattle.lists.specs.Picture.{points};
 ghost use Rattle.lanes.specs.Walk.{apart};
 ghost use Rattle.lanes.specs.Score.{at, onward, score};
 ghost use Rattle.lanes.specs.States.{Marks, LanesHold, Below, unset, Pointed, Advanced};
+ghost use Rattle.lanes.specs.Sweep.{lanesOf, Stored, Swept, sweptScores};
 
 // Lanes 0 to 4 of one strip.
 pub struct Lanes {
@@ -145,4 +148,88 @@ pub fn strip_score(
         v = advanced(e, (from + (t + 1)) * down + c * across, across, v);
     }
     above(lane(v, k))
+}
+
+// ---- strips side by side
+
+// The lanes of up to 4096 strips: lane j of strip i at 4096 * j + i.
+type States = [u16; 20480];
+
+fn lanes_at(st: &States, i: usize) -> Lanes
+    requires { ⌜ i < 4096 ⌝ }
+    ensures { λ r. ⌜ r ≡ lanesOf (now (st .entry)) i ⌝ }
+{
+    Lanes {
+        a: st[i],
+        b: st[4096 + i],
+        c: st[8192 + i],
+        d: st[12288 + i],
+        e: st[16384 + i],
+    }
+}
+
+fn put(st: &mut States, i: usize, v: Lanes)
+    requires { ⌜ (i < 4096) × (length (now st) ≡ 20480) ⌝ }
+    ensures { λ _. ⌜ Stored (now (st .entry)) i v (now (st .exit)) ⌝ }
+{
+    st[i] = v.a;
+    st[4096 + i] = v.b;
+    st[8192 + i] = v.c;
+    st[12288 + i] = v.d;
+    st[16384 + i] = v.e;
+}
+
+// All strips before the first step.
+fn starts(st: &mut States, m: usize)
+    requires { ⌜ (m ≤ 4096) × (length (now st) ≡ 20480) ⌝ }
+    ensures { λ _. ⌜ ((E : ℕ → ℕ → Bool) (from c : ℕ) → Swept E from c m 0 (now (st .exit))) ⌝ }
+{
+    for i in 0..m {
+        put(st, i, start(2));
+    }
+}
+
+// One row, all strips: the compiler packs this loop.
+fn sweep_row(e: &[u8], stride: usize, from: usize, t: usize, c: usize, m: usize, st: &mut States)
+    requires { ⌜ (m ≤ 4096) × (from + t < 4096) × ((from + (t + 1)) * stride + c + m + 4 ≤ length (now e)) × Marks (now e)
+        × Swept (points stride 1 (now e)) from c m t (now st) ⌝ }
+    ensures { λ _. ⌜ Swept (points stride 1 (now (e .entry))) from c m (t + 1) (now (st .exit)) ⌝ }
+{
+    let o = (from + (t + 1)) * stride + c;
+    for i in 0..m {
+        let v = advanced(e, o + i, 1, lanes_at(st, i));
+        put(st, i, v);
+    }
+}
+
+// All rows, so that each row of the picture is read once.
+fn sweep(e: &[u8], stride: usize, from: usize, steps: usize, c: usize, m: usize, st: &mut States)
+    requires { ⌜ (m ≤ 4096) × (from + steps ≤ 4096) × ((from + steps) * stride + c + m + 4 ≤ length (now e)) × Marks (now e)
+        × Swept (points stride 1 (now e)) from c m 0 (now st) ⌝ }
+    ensures { λ _. ⌜ Swept (points stride 1 (now (e .entry))) from c m steps (now (st .exit)) ⌝ }
+{
+    for t in 0..steps {
+        sweep_row(e, stride, from, t, c, m, st);
+    }
+}
+
+fn middle_lanes(st: &States, out: &mut [u32])
+    requires { ⌜ (length (now out) ≤ 4096) × ((i : ℕ) → i < length (now out) → 5 ≤ getD (now st) (8192 + i) 0) ⌝ }
+    ensures { λ _. ⌜ now (out .exit) ≡ tab (length (now (out .entry))) (λ i. getD (now (st .entry)) (8192 + i) 0 - 5) ⌝ }
+{
+    for i in 0..out.len() {
+        out[i] = above(st[8192 + i]);
+    }
+}
+
+// The strips from column c on, one for each entry of `out`, all with target lane 2.
+pub fn sweep_scores(e: &[u8], stride: usize, from: usize, to: usize, c: usize, out: &mut [u32])
+    requires { ⌜ (from ≤ to) × (to ≤ 4096) × (length (now out) ≤ 4096) × (to * stride + c + length (now out) + 4 ≤ length (now e))
+        × Marks (now e) ⌝ }
+    ensures { λ _. ⌜ now (out .exit) ≡ sweptScores (points stride 1 (now (e .entry))) from to c (length (now (out .entry))) ⌝ }
+{
+    let mut st: States = [0; 20480];
+    starts(&mut st, out.len());
+    sweep(e, stride, from, to - from, c, out.len(), &mut st);
+    middle_lanes(&st, out);
 }

@@ -1,4 +1,3 @@
 pub mod Scores
-pub mod Stores
 pub mod Turning
 pub mod Bands

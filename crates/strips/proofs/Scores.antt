@@ -15,7 +15,8 @@ use Rattle.lists.proofs.Fill.{length-tabFrom}
 use Rattle.lists.proofs.Front.{front-by}
 use Rattle.lanes.specs.Score.{Place, at, score}
 use Rattle.strips.specs.Strip.{places, placeCount, scores}
-use Rattle.strips.specs.States.{sweptScores, bordered}
+use Rattle.lanes.specs.Sweep.{sweptScores}
+use Rattle.strips.specs.States.{bordered}
 
 -- ---- how many
 

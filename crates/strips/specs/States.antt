@@ -1,15 +1,13 @@
--- What the inner functions ensure of each other: the states of strips while they are walked down together, and a picture turned.
+-- What the two score lists ask, and what the inner functions ensure of each other: the border places, and a picture turned.
 -- Only `Scorable` is part of a contract that others call; the scores themselves are Strip's.
 use Prim.Native.Nat.{ℕ, _+_, _-_, _*_, _≤_, _<_}
 use mathlib.Core.Bool.{Bool}
 use mathlib.Core.Path.{_≡_}
 use mathlib.Core.List.{List}
 use lib.ListN.{length, getD, set}
-use Rattle.lists.specs.Tab.{tab}
 use Rattle.board.specs.declared.Bounds.{Bounds}
-use Rattle.lanes.specs.declared.Lanes.{Lanes}
 use Rattle.lanes.specs.Score.{at, score}
-use Rattle.lanes.specs.States.{Marks, Walked}
+use Rattle.lanes.specs.States.{Marks}
 use Rattle.strips.specs.Strip.{placeCount}
 
 -- what the two score lists ask: bounds within a packed picture of 0 and 1, sides of at most 4,094, both spans at least 4
@@ -23,26 +21,6 @@ pub record Scorable (edges : List ℕ) (stride : ℕ) (b : Bounds) : Type 0 wher
   pub marks : Marks edges
 
 -- ---- for the contracts inside
-
--- the lanes of strip i in the states of a sweep: lanes lie 4096 apart
-abbrev pub lanesOf : List ℕ → ℕ → Lanes
-lanesOf st i =
-    record { a = getD st i 0; b = getD st (4096 + i) 0; c = getD st (8192 + i) 0; d = getD st (12288 + i) 0; e = getD st (16384 + i) 0 }
-
--- strip i has new lanes, the other strips are as they were
-pub record Stored (before : List ℕ) (i : ℕ) (v : Lanes) (after : List ℕ) : Type 0 where
-  pub len : length after ≡ 20480
-  pub new : lanesOf after i ≡ v
-  pub old : (j : ℕ) → j < 4096 → (j ≡ i → ⊥) → lanesOf after j ≡ lanesOf before j
-
--- the m strips from column c on, t rows below row `from`, all with target lane 2
-pub record Swept (E : ℕ → ℕ → Bool) (from c m t : ℕ) (st : List ℕ) : Type 0 where
-  pub len : length st ≡ 20480
-  pub strip : (i : ℕ) → i < m → Walked E from (at (c + i) 2) t (lanesOf st i)
-
--- the scores of m strips from column c on, all with target lane 2
-abbrev pub sweptScores : (ℕ → ℕ → Bool) → ℕ → ℕ → ℕ → ℕ → List ℕ
-sweptScores E from to c m = tab m (λ i. score E from to (at (c + i) 2))
 
 -- a list with the scores of target lanes k and k + 1 of one strip as entries i and i + 1
 abbrev pub twoScores : (ℕ → ℕ → Bool) → ℕ → ℕ → ℕ → ℕ → ℕ → List ℕ → List ℕ

@@ -10,7 +10,7 @@ use Rattle.lanes.proofs.with_point.Tie as tie
 place : (c : tie.Start) → c .args .o + c .args .j * c .args .across < length (now (c .args .e))
 place c = lane-in _ _ _ _ (c .pre .0) (c .pre .2)
 
-mark : (c : tie.After-shared-slice-known) → getD (now (c .before .args .e)) (c .before .args .o + c .before .args .j * c .before .args .across) 0 ≤ 1
+mark : (c : tie.After-shared-slice-known) → let a = c .before .args in getD (now (a .e)) (a .o + a .j * a .across) 0 ≤ 1
 mark c = c .before .pre .1 _
 
 mul-result : tie.Need-mul-result

@@ -10,7 +10,7 @@ use Rattle.lists.specs.Front.{AtFront}
 use Rattle.lists.specs.Picture.{points}
 use Rattle.lists.proofs.Fill.{length-tabFrom}
 use Rattle.lists.proofs.Front.{front-none, front-all}
-use Rattle.strips.specs.States.{sweptScores}
+use Rattle.lanes.specs.Sweep.{sweptScores}
 use Rattle.strips.proofs.Bands.{band-in, scratch-in, front-band}
 use borrow.Author.Needs.{needs}
 use Rattle.strips.proofs.banded_scores.Statement.{statement}
@@ -95,7 +95,8 @@ loop-again c =
     let m = at-band lent .shorter .result in (
       omega arith,
       search needs,
-      front-band _ _ (l .i) m (l .i + m - l .i) (l .inv .2) (part lent) (omega arith) (at-scores c .band-scores .ensures) (λ j. rw add-assoc),
+      front-band _ _ (l .i) m (l .i + m - l .i) (l .inv .2) (part lent) (omega arith) (at-scores c .band-scores .ensures)
+          (λ j. rw add-assoc),
     )
 
 same-length : tie.Need-same-length Inv-loop μ-loop

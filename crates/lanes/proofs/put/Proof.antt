@@ -1,8 +1,8 @@
--- `strips::put` meets its contract.
-use Rattle.strips.proofs.Stores.{stored}
+-- `lanes::put` meets its contract.
+use Rattle.lanes.proofs.Stores.{stored}
 use borrow.Author.Needs.{needs}
-use Rattle.strips.proofs.put.Statement.{statement}
-use Rattle.strips.proofs.put.Tie as tie
+use Rattle.lanes.proofs.put.Statement.{statement}
+use Rattle.lanes.proofs.put.Tie as tie
 
 mul-st : tie.Need-mul-st
 mul-st c = search needs

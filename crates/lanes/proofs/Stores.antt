@@ -8,10 +8,10 @@ use borrow.Author.Tests.{eqb-true, eqb-false}
 use lib.Dec.{eqb}
 use lib.ListN.{length, getD, set, length-set}
 use lib.Seq.{getD-set-same, getD-set-other}
 use Rattle.lanes.specs.declared.Lanes.{Lanes}
 use Rattle.lanes.specs.Score.{at, score}
-use Rattle.strips.specs.States.{lanesOf, Stored, Swept}
+use Rattle.lanes.specs.Sweep.{lanesOf, Stored, Swept}
 use Rattle.lanes.proofs.States.{lane-score}
 
 -- a store at another place, and one further on
 after : (l : List ℕ) (p q x y : ℕ) → (q ≡ p → ⊥) → getD l q 0 ≡ y → getD (set l p x) q 0 ≡ y

@@ -1,17 +1,17 @@
--- `strips::sweep_row` meets its contract. The invariant: the strips before i are one row further than the others. The strips left fall.
+-- `lanes::sweep_row` meets its contract. The invariant: the strips before i are one row further than the others. The strips left fall.
 use Prim.Native.Nat.{_+_, _*_, _-_, _≤_}
 use mathlib.Core.Path.{_≡_, refl}
 use native.Mathlib.Nat.{not-suc-le-zero}
 use native.Mathlib.Omega.{arith}
 use denote.Ref.{now}
 use Rattle.lists.specs.Picture.{points}
 use Rattle.lanes.specs.Score.{at}
 use Rattle.lanes.specs.States.{Walked}
 use Rattle.lanes.proofs.States.{row-more}
-use Rattle.strips.proofs.Stores.{Partly, partly-more}
+use Rattle.lanes.proofs.Stores.{Partly, partly-more}
 use borrow.Author.Needs.{needs}
-use Rattle.strips.proofs.sweep_row.Statement.{statement}
-use Rattle.strips.proofs.sweep_row.Tie as tie
+use Rattle.lanes.proofs.sweep_row.Statement.{statement}
+use Rattle.lanes.proofs.sweep_row.Tie as tie
 
 abbrev Inv-loop : tie.InvT-loop
 Inv-loop e stride from t c m st₀ o i₀ st i =

@@ -1,12 +1,12 @@
--- `strips::sweep_scores` meets its contract: the target lane of each strip holds 5 more than its score.
+-- `lanes::sweep_scores` meets its contract: the target lane of each strip holds 5 more than its score.
 use Prim.Native.Nat.{_+_, _-_}
 use mathlib.Core.Path.{_≡_, _∙_}
 use native.Mathlib.Omega.{arith}
 use Rattle.lists.proofs.Fill.{tab-same}
-use Rattle.strips.proofs.Stores.{middle-score}
+use Rattle.lanes.proofs.Stores.{middle-score}
 use borrow.Author.Needs.{needs}
-use Rattle.strips.proofs.sweep_scores.Statement.{statement}
-use Rattle.strips.proofs.sweep_scores.Tie as tie
+use Rattle.lanes.proofs.sweep_scores.Statement.{statement}
+use Rattle.lanes.proofs.sweep_scores.Tie as tie
 
 -- the places that the others follow
 abbrev at-start : tie.After-starts → tie.Start

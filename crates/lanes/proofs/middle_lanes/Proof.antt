@@ -1,4 +1,4 @@
--- `strips::middle_lanes` meets its contract. The invariant: the first i entries are filled. The entries left fall.
+-- `lanes::middle_lanes` meets its contract. The invariant: the first i entries are filled. The entries left fall.
 use Prim.Native.Nat.{_+_, _-_, _≤_}
 use mathlib.Core.Path.{_≡_, refl}
 use native.Mathlib.Omega.{arith}
@@ -9,8 +9,8 @@ use Rattle.lists.specs.Tab.{tab}
 use Rattle.lists.proofs.Fill.{length-tabFrom}
 use Rattle.lists.proofs.Front.{front-none, front-more, front-all}
 use borrow.Author.Needs.{needs}
-use Rattle.strips.proofs.middle_lanes.Statement.{statement}
-use Rattle.strips.proofs.middle_lanes.Tie as tie
+use Rattle.lanes.proofs.middle_lanes.Statement.{statement}
+use Rattle.lanes.proofs.middle_lanes.Tie as tie
 
 abbrev Inv-loop : tie.InvT-loop
 Inv-loop st out₀ i₀ i-end out i =

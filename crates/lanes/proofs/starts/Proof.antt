@@ -1,13 +1,13 @@
--- `strips::starts` meets its contract. The invariant: the strips before i have their lanes. The strips left fall.
+-- `lanes::starts` meets its contract. The invariant: the strips before i have their lanes. The strips left fall.
 use Prim.Native.Nat.{_-_, _≤_}
 use native.Mathlib.Nat.{not-suc-le-zero}
 use native.Mathlib.Omega.{arith}
 use Rattle.lanes.specs.Walk.{apart}
 use Rattle.lanes.specs.States.{LanesHold}
-use Rattle.strips.proofs.Stores.{Partly, partly-more}
+use Rattle.lanes.proofs.Stores.{Partly, partly-more}
 use borrow.Author.Needs.{needs}
-use Rattle.strips.proofs.starts.Statement.{statement}
-use Rattle.strips.proofs.starts.Tie as tie
+use Rattle.lanes.proofs.starts.Statement.{statement}
+use Rattle.lanes.proofs.starts.Tie as tie
 
 abbrev Inv-loop : tie.InvT-loop
 Inv-loop st₀ m i₀ st i = (i ≤ m) × Partly (λ j v. Unit) (λ j v. LanesHold 5 (λ k. apart k 2) v) m i st

@@ -1,13 +1,13 @@
--- `strips::sweep` meets its contract. The invariant: all strips are t rows down. The rows left fall.
+-- `lanes::sweep` meets its contract. The invariant: all strips are t rows down. The rows left fall.
 use Prim.Native.Nat.{_+_, _-_, _≤_}
 use mathlib.Core.Path.{_≡_}
 use native.Mathlib.Nat.{mul-le-mul-right}
 use native.Mathlib.Omega.{arith}
 use Rattle.lists.specs.Picture.{points}
-use Rattle.strips.specs.States.{Swept}
+use Rattle.lanes.specs.Sweep.{Swept}
 use borrow.Author.Needs.{needs}
-use Rattle.strips.proofs.sweep.Statement.{statement}
-use Rattle.strips.proofs.sweep.Tie as tie
+use Rattle.lanes.proofs.sweep.Statement.{statement}
+use Rattle.lanes.proofs.sweep.Tie as tie
 
 abbrev Inv-loop : tie.InvT-loop
 Inv-loop e stride from steps c m st₀ t₀ st t = (t ≤ steps) × Swept (points stride 1 e) from c m t st
