@@ -19,7 +19,8 @@ start c = c .before .before .before .before
 abbrev at-quarters : tie.After-slice-known2 → tie.After-quarters-of
 at-quarters c = c .before .before
 
-fits : (c : tie.Else1) → InLimits (now (start c .args .list)) × (4 * length (now (start c .args .list)) ≤ length (now (start c .args .scratch)))
+fits : (c : tie.Else1)
+    → InLimits (now (start c .args .list)) × (4 * length (now (start c .args .list)) ≤ length (now (start c .args .scratch)))
 fits c = line-fit (now (start c .args .list)) (length (now (start c .args .scratch))) (sym (c .before .line-answer .ensures) ∙ c .if1 .left)
 
 line-answer-requires : tie.Need-line-answer-requires
