@@ -35,10 +35,10 @@ mul-room : tie.Need-mul-room
 mul-room c = search needs
 
 slice-relend-prefix-quarters-of : tie.Need-slice-relend-prefix-quarters-of
-slice-relend-prefix-quarters-of c = fits c .1
+slice-relend-prefix-quarters-of c = omega (arith, fits c .1)
 
 slice-aggregate-quarters-of : tie.Need-slice-aggregate-quarters-of
-slice-aggregate-quarters-of c = sym (length-take-le _ _ (fits (c .before) .1))
+slice-aggregate-quarters-of c = sym (length-take-le _ _ (omega (arith, fits (c .before) .1)))
 
 quarters-of-requires : tie.Need-quarters-of-requires
 quarters-of-requires c κs = (fits (c .before) .0, simp length-take (omega (arith, fits (c .before) .1)))
