@@ -34,7 +34,8 @@ collected-more {whole} {rest} {n} {v} h l =
       whole-is = append-snoc (h .list) v rest ∙ h .whole-is;
     }
 
-pub collected-all : {whole : List ℕ} {n : ℕ} {lent out : List ℕ} → Collected whole [] n lent out → (n ≡ length whole) × AtFront whole lent out
+pub collected-all : {whole : List ℕ} {n : ℕ} {lent out : List ℕ} → Collected whole [] n lent out
+    → (n ≡ length whole) × AtFront whole lent out
 collected-all h = let e : h .list ≡ _ = rw append-nil at (h .whole-is) in (rw e at (h .counted), rw e at (h .front))
 
 -- v in front of the rest, if it is kept
@@ -78,7 +79,8 @@ gapsFrom k l = wideGaps (drop (k - 1) l)
 gaps-next : (j k : ℕ) (l : List ℕ) → k ≡ suc j → k < length l → gaps (drop j l) ≡ (getD l k 0 - getD l j 0) ∷ gaps (drop k l)
 gaps-next j k l e h = let n : suc j < length l = omega arith in rw (e, drop-cons l j 0 (omega arith), drop-cons l (suc j) 0 n)
 
-pub wide-next : (k g : ℕ) (l : List ℕ) → 1 ≤ k → k < length l → g ≡ getD l k 0 - getD l (k - 1) 0 → gapsFrom k l ≡ keptIf (ltb 5 g) g (gapsFrom (k + 1) l)
+pub wide-next : (k g : ℕ) (l : List ℕ) → 1 ≤ k → k < length l → g ≡ getD l k 0 - getD l (k - 1) 0
+    → gapsFrom k l ≡ keptIf (ltb 5 g) g (gapsFrom (k + 1) l)
 wide-next k g l a h e = let q : k + 1 - 1 ≡ k = omega arith in rw (q, gaps-next (k - 1) k l (omega arith) h, e)
 
 gaps-none : (l : List ℕ) → length l ≤ 1 → gaps l ≡ []

@@ -25,13 +25,16 @@ module _ (e : ℕ) where
   last-alone (x ∷ []) h = refl
   last-alone (x ∷ y ∷ l) h = absurd (omega arith)
 
-  last-at : (l : List ℕ) (n : ℕ) → length l ≡ suc (suc n) → dropLast e l ≡ cond (narrowGap e (getD l (suc n) 0 - getD l n 0)) (take (suc n) l) l
+  last-at : (l : List ℕ) (n : ℕ) → length l ≡ suc (suc n)
+      → dropLast e l ≡ cond (narrowGap e (getD l (suc n) 0 - getD l n 0)) (take (suc n) l) l
   last-at [] n h = absurd (omega arith)
   last-at (x ∷ []) n h = absurd (omega arith)
   last-at (x ∷ y ∷ []) zero h = refl
   last-at (x ∷ y ∷ []) (suc n) h = absurd (omega arith)
   last-at (x ∷ y ∷ z ∷ l) zero h = absurd (omega arith)
-  last-at (x ∷ y ∷ z ∷ l) (suc n) h = rw (last-at (y ∷ z ∷ l) n (omega arith)) (front (narrowGap e (getD (y ∷ z ∷ l) (suc n) 0 - getD (y ∷ z ∷ l) n 0)))
+  last-at (x ∷ y ∷ z ∷ l) (suc n) h =
+      let gap = getD (y ∷ z ∷ l) (suc n) 0 - getD (y ∷ z ∷ l) n 0 in
+      rw (last-at (y ∷ z ∷ l) n (omega arith)) (front (narrowGap e gap))
     where
       front : (t : Bool) → x ∷ cond t (take (suc n) (y ∷ z ∷ l)) (y ∷ z ∷ l) ≡ cond t (x ∷ take (suc n) (y ∷ z ∷ l)) (x ∷ y ∷ z ∷ l)
       front true = refl

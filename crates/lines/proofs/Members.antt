@@ -27,7 +27,8 @@ pub has-keep : (p : ℕ → Bool) (v : ℕ) (l : List ℕ) → Has v (keep p l) 
 has-keep p v [] m = absurd m
 has-keep p v (x ∷ l) m = at (has-keep p v l) (p x) refl m
   where
-    at : (Has v (keep p l) → (p v ≡ true) × Has v l) → (t : Bool) → p x ≡ t → Has v (cond t (x ∷ keep p l) (keep p l)) → (p v ≡ true) × Has v (x ∷ l)
+    at : (Has v (keep p l) → (p v ≡ true) × Has v l) → (t : Bool) → p x ≡ t → Has v (cond t (x ∷ keep p l) (keep p l))
+        → (p v ≡ true) × Has v (x ∷ l)
     at ih true q (inl e) = (rw e at q, inl e)
     at ih true q (inr m) = (ih m .0, inr (ih m .1))
     at ih false q m = (ih m .0, inr (ih m .1))
@@ -79,7 +80,8 @@ two-of-gap v (x ∷ y ∷ l) m = omega arith
 -- the last line lies at least a gap behind the first
 gap-span : (v low high x : ℕ) (l : List ℕ) → Rising low high (x ∷ l) → Has v (gaps (x ∷ l)) → x + v ≤ getD (x ∷ l) (length l) 0
 gap-span v low high x [] w m = absurd m
-gap-span v low high x (y ∷ l) w (inl g) = omega (arith, w .2 .0, rising-at y high (y ∷ l) (length l) (omega arith, w .2 .1, w .2 .2) (omega arith))
+gap-span v low high x (y ∷ l) w (inl g) =
+    omega (arith, w .2 .0, rising-at y high (y ∷ l) (length l) (omega arith, w .2 .1, w .2 .2) (omega arith))
 gap-span v low high x (y ∷ l) w (inr m) = omega (arith, w .2 .0, gap-span v (suc x) high y l (w .2) m)
 
 pub span : (v low high : ℕ) (l : List ℕ) → Rising low high l → Has v (gaps l) → getD l 0 0 + v ≤ getD l (length l - 1) 0

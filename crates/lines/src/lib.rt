@@ -30,8 +30,8 @@ pub fn largest_of(s: &[u32]) -> u32
 
 // ---- smoothing
 
-// The larger and the smaller of two scores. They are apart from `larger` above: that one takes any number, as the list is still unchecked where its
-// largest entry is asked for, and these two may count on scores of at most 4,096.
+// The larger and the smaller of two scores. They are apart from `larger` above: that one takes any number, as a list is
+// not yet checked where its largest entry is asked for, and these two may count on scores of at most 4,096.
 fn larger_score(a: u32, b: u32) -> u32
     requires { ⌜ (a ≤ 4096) × (b ≤ 4096) ⌝ }
     ensures { λ r. ⌜ r ≡ max a b ⌝ }

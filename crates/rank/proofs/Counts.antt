@@ -7,7 +7,8 @@ use borrow.Author.Tests.{le-leb}
 use lib.ListN.{length, getD}
 use Rattle.rank.specs.Rank.{countAtMost}
 
-pub count-all : {A : Type 0} (key : A → ℕ) (v : ℕ) (l : List A) (d : A) → ((k : ℕ) → k < length l → key (getD l k d) ≤ v) → countAtMost key v l ≡ length l
+pub count-all : {A : Type 0} (key : A → ℕ) (v : ℕ) (l : List A) (d : A) → ((k : ℕ) → k < length l → key (getD l k d) ≤ v)
+    → countAtMost key v l ≡ length l
 count-all key v [] d h = refl
 count-all key v (x ∷ l) d h =
     let ih = count-all key v l d (λ k b. h (suc k) (omega arith)) in

@@ -16,12 +16,14 @@ module _ {A : Type 0} (key : A → ℕ) (d : A) where
   pub at-least : (v : ℕ) (l : List A) (j : ℕ) → j < length l → j < countAtMost key v l → key (entry key d l j) ≤ v
   unfolding entry
   at-least v l j h k =
-      le-of-suc-le-suc (lt-of-not-le (λ g. omega (arith, below key v (sort key l) j d (sorted-sort key l) (omega (arith, length-sort key l)) g, count-sort key v l)))
+      let long : j < length (sort key l) = omega (arith, length-sort key l) in
+      le-of-suc-le-suc (lt-of-not-le (λ g. omega (arith, below key v (sort key l) j d (sorted-sort key l) long g, count-sort key v l)))
 
   pub at-most : (v : ℕ) (l : List A) (j : ℕ) → j < length l → countAtMost key v l ≤ j → v < key (entry key d l j)
   unfolding entry
   at-most v l j h k =
-      lt-of-not-le (λ g. omega (arith, above key v (sort key l) j d (sorted-sort key l) (omega (arith, length-sort key l)) g, count-sort key v l))
+      let long : j < length (sort key l) = omega (arith, length-sort key l) in
+      lt-of-not-le (λ g. omega (arith, above key v (sort key l) j d (sorted-sort key l) long g, count-sort key v l))
 
   -- past the end there is no entry
   pub entry-none : (l : List A) (j : ℕ) → length l ≤ j → entry key d l j ≡ d
@@ -36,7 +38,8 @@ module _ {A : Type 0} (key : A → ℕ) (d : A) where
       go false e = lt-leb _ _ (at-most v l j h (ltb-false _ _ e))
 
   -- x has the key of entry j if its key is at most v exactly where more than j entries are
-  pub entry-key : (x : A) (l : List A) (j : ℕ) → j < length l → ((v : ℕ) → leb (key x) v ≡ ltb j (countAtMost key v l)) → key x ≡ key (entry key d l j)
+  pub entry-key : (x : A) (l : List A) (j : ℕ) → j < length l → ((v : ℕ) → leb (key x) v ≡ ltb j (countAtMost key v l))
+      → key x ≡ key (entry key d l j)
   entry-key x l j h e =
       let top = key (entry key d l j) in
       le-antisymm
@@ -53,8 +56,10 @@ module _ {A : Type 0} (key : A → ℕ) (d : A) where
   pub between-all : (hi : ℕ) (l : List A) (j : ℕ) → j < length l → countAtMost key hi l ≡ length l → Between l j 0 hi
   between-all hi l j h e = record { low = omega arith; high = at-least hi l j h (omega arith) }
 
-  pub between-left : {l : List A} {j lo hi : ℕ} (mid : ℕ) → Between l j lo hi → j < length l → j < countAtMost key mid l → Between l j lo mid
+  pub between-left : {l : List A} {j lo hi : ℕ} (mid : ℕ) → Between l j lo hi → j < length l → j < countAtMost key mid l
+      → Between l j lo mid
   between-left {l} {j} mid b h k = record { low = b .low; high = at-least mid l j h k }
 
-  pub between-right : {l : List A} {j lo hi : ℕ} (mid : ℕ) → Between l j lo hi → j < length l → countAtMost key mid l ≤ j → Between l j (mid + 1) hi
+  pub between-right : {l : List A} {j lo hi : ℕ} (mid : ℕ) → Between l j lo hi → j < length l → countAtMost key mid l ≤ j
+      → Between l j (mid + 1) hi
   between-right {l} {j} mid b h k = record { low = omega (arith, at-most mid l j h k); high = b .high }

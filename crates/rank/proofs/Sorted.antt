@@ -40,7 +40,8 @@ module _ {A : Type 0} (key : A → ℕ) where
   count-insert v x [] = refl
   count-insert v x (y ∷ l) = at (count-insert v x l) (leb (key x) (key y))
     where
-      at : countAtMost key v (insert key x l) ≡ countAtMost key v (x ∷ l) → (t : Bool) → countAtMost key v (cond t (x ∷ y ∷ l) (y ∷ insert key x l)) ≡ countAtMost key v (x ∷ y ∷ l)
+      at : countAtMost key v (insert key x l) ≡ countAtMost key v (x ∷ l) → (t : Bool)
+          → countAtMost key v (cond t (x ∷ y ∷ l) (y ∷ insert key x l)) ≡ countAtMost key v (x ∷ y ∷ l)
       at ih true = refl
       at ih false = omega arith
 

@@ -77,7 +77,8 @@ pub record Readable (e : ℕ) (lines : List ℕ) (room : ℕ) : Type 0 where
   pub rising : getD lines 0 0 ≤ getD lines (length lines - 1) 0
   pub row : getD lines 0 0 + 8 ≤ room
 
--- the lines that remain of s stand in the array from `from` up to `end`, e is theirs, and a row as long as four times s is enough to search them
+-- the lines that remain of s stand in the array from `from` up to `end`, e is theirs, and a row as long as four times s
+-- is enough to search them
 pub record Standing (s array : List ℕ) (from end e : ℕ) : Type 0 where
   pub answer : gapAnswer (linesOf s) ≡ 0
   pub rising : from ≤ end

@@ -1,4 +1,5 @@
--- The order of choices, and the best of a block of the range: blocks are searched one after another in any order, and the best of all is one. Assumes nothing.
+-- The order of choices, and the best of a block of the range: blocks are searched one after another in any order, and
+-- the best of all is one. Assumes nothing.
 use Prim.Native.Nat.{ℕ, _+_, _≤_, _<_}
 use mathlib.Core.Path.{_≡_, refl, sym, _∙_}
 use mathlib.Core.Logic.{_⊎_, inl, inr, ⊎-elim, ⊎-map}
@@ -75,7 +76,12 @@ pair f o q = record { votes = f o q; offset = o; quarter = q }
 
 module _ (f : ℕ → ℕ → ℕ) (o q : ℕ) where
   in-block : Block f o 1 q 1 (pair f o q)
-  in-block = record { counted = refl; offsets = record { low = omega arith; high = omega arith }; quarters = record { low = omega arith; high = omega arith } }
+  in-block =
+      record {
+        counted = refl;
+        offsets = record { low = omega arith; high = omega arith };
+        quarters = record { low = omega arith; high = omega arith };
+      }
 
   of-block : {c : Choice} → Block f o 1 q 1 c → pair f o q ≡ c
   of-block {c} b =
@@ -110,7 +116,8 @@ module _ {from n p k w : ℕ} (next : Next from n p k w) {x : ℕ} where
 
 -- a block and the one beside it: more values of q, or more offsets
 module _ {f : ℕ → ℕ → ℕ} {a b r : Choice} where
-  pub quarters-on : {o n q m p k w : ℕ} → Next q m p k w → Picks (Block f o n q m) a b → Picks (Block f o n p k) b r → Picks (Block f o n q w) a r
+  pub quarters-on : {o n q m p k w : ℕ} → Next q m p k w → Picks (Block f o n q m) a b → Picks (Block f o n p k) b r
+      → Picks (Block f o n q w) a r
   quarters-on next s t =
       picks-on s t (λ c h. put h (front next (h .quarters))) (λ c h. put h (back next (h .quarters)))
       (λ c h. ⊎-map (put h) (put h) (side next (h .quarters)))
@@ -118,7 +125,8 @@ module _ {f : ℕ → ℕ → ℕ} {a b r : Choice} where
       put : {c : Choice} {o n q m p k : ℕ} → Block f o n q m c → OneOf p k (c .quarter) → Block f o n p k c
       put h i = record { counted = h .counted; offsets = h .offsets; quarters = i }
 
-  pub offsets-on : {o n q m p k w : ℕ} → Next o n p k w → Picks (Block f o n q m) a b → Picks (Block f p k q m) b r → Picks (Block f o w q m) a r
+  pub offsets-on : {o n q m p k w : ℕ} → Next o n p k w → Picks (Block f o n q m) a b → Picks (Block f p k q m) b r
+      → Picks (Block f o w q m) a r
   offsets-on next s t =
       picks-on s t (λ c h. put h (front next (h .offsets))) (λ c h. put h (back next (h .offsets)))
       (λ c h. ⊎-map (put h) (put h) (side next (h .offsets)))

@@ -1,10 +1,12 @@
--- The winner by itself, for a caller that promises it: it is searched, its votes are those of the lines, and it is ahead of every pair of the range.
--- It starts from no votes, so it is a pair of the range because some pair has a vote. Assumes nothing.
+-- The winner by itself, for a caller that promises it: it is searched, its votes are those of the lines, and it is
+-- ahead of every pair of the range. It starts from no votes, so it is a pair of the range because some pair has a vote.
+-- Assumes nothing.
 use Prim.Native.Nat.{ℕ, suc, _-_, _*_, _/_, _%_, _≤_, _<_}
 use mathlib.Core.Path.{_≡_, refl, sym}
 use mathlib.Core.Logic.{_⊎_, ⊎-elim}
 use mathlib.Core.List.{List, [], _∷_}
-use native.Mathlib.Nat.{mod-le, mod-add-div', le-div-iff-mul-le, div-mul-le-self, mul-le-mul-left, le-trans, mul-div-cancel, mul-assoc, mul-comm}
+use native.Mathlib.Nat.{mod-le, mod-add-div', le-div-iff-mul-le, div-mul-le-self, mul-le-mul-left, le-trans}
+use native.Mathlib.Nat.{mul-div-cancel, mul-assoc, mul-comm}
 use native.Mathlib.Omega.{arith}
 use borrow.Author.Tests.{eq-eqb}
 use lib.ListN.{length}
@@ -19,7 +21,8 @@ shift n m = let e : n * (4 * m) ≡ n * m * 4 = rw (mul-comm 4 m, mul-assoc) in 
 voted : (e l : ℕ) (lines : List ℕ) → minPitch e ≤ maxPitch e → 0 < votes e (l ∷ lines) (l % maxPitch e) (4 * maxPitch e)
 voted e l lines h =
     let n = l / maxPitch e in
-    let c : n ≤ l / minPitch e = le-div-iff-mul-le {k = minPitch e} {x = n} {y = l} (omega arith) .1 (le-trans (mul-le-mul-left n h) (div-mul-le-self l (maxPitch e))) in
+    let below = le-trans (mul-le-mul-left n h) (div-mul-le-self l (maxPitch e)) in
+    let c : n ≤ l / minPitch e = le-div-iff-mul-le {k = minPitch e} {x = n} {y = l} (omega arith) .1 below in
     let d : suc (l / minPitch e) - l / maxPitch e ≡ suc (l / minPitch e - l / maxPitch e) = omega arith in
     rw (d, shift (l / maxPitch e) (maxPitch e), mod-add-div', eq-eqb l l refl) (omega arith)
 

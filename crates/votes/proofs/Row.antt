@@ -21,10 +21,12 @@ cleared-at width h o l = front-within 0 o h (rw (length-replicate {A = ℕ} widt
 
 -- ---- one vote
 
-pub hit-one : (width : ℕ) (row : List ℕ) (l s : ℕ) → s ≤ l → l - s < length row → Added width (hit l s) row (set row (l - s) (getD row (l - s) 0 + 1))
+pub hit-one : (width : ℕ) (row : List ℕ) (l s : ℕ) → s ≤ l → l - s < length row
+    → Added width (hit l s) row (set row (l - s) (getD row (l - s) 0 + 1))
 hit-one width row l s h b = record { len = length-set row (l - s) _; at = λ o c. go o (eqb (o + s) l) refl }
   where
-    go : (o : ℕ) (t : Bool) → eqb (o + s) l ≡ t → getD (set row (l - s) (getD row (l - s) 0 + 1)) o 0 ≡ getD row o 0 + cond (eqb (o + s) l) 1 0
+    go : (o : ℕ) (t : Bool) → eqb (o + s) l ≡ t
+        → getD (set row (l - s) (getD row (l - s) 0 + 1)) o 0 ≡ getD row o 0 + cond (eqb (o + s) l) 1 0
     go o true e =
         let q : l - s ≡ o = omega (arith, eqb-true (o + s) l e) in
         let b' : o < length row = rw q at b in
@@ -86,9 +88,11 @@ turns e l y s h = rw add-one (div-lt-iff-lt-mul {k = y} {x = l} {y = 512} (omega
 
 votes-of-line-few : (l q o from count : ℕ) → votesOfLine l q o from count ≤ 2 * count
 votes-of-line-few l q o from zero = omega arith
-votes-of-line-few l q o from (suc count) = at (votes-of-line-few l q o (suc from) count) (eqb (o + from * q / 4) l) (eqb (o + from * q / 4) (l + 1))
+votes-of-line-few l q o from (suc count) =
+    at (votes-of-line-few l q o (suc from) count) (eqb (o + from * q / 4) l) (eqb (o + from * q / 4) (l + 1))
   where
-    at : votesOfLine l q o (suc from) count ≤ 2 * count → (s t : Bool) → cond s 1 0 + cond t 1 0 + votesOfLine l q o (suc from) count ≤ 2 * suc count
+    at : votesOfLine l q o (suc from) count ≤ 2 * count → (s t : Bool)
+        → cond s 1 0 + cond t 1 0 + votesOfLine l q o (suc from) count ≤ 2 * suc count
     at ih true true = omega arith
     at ih true false = omega arith
     at ih false true = omega arith
@@ -97,4 +101,5 @@ votes-of-line-few l q o from (suc count) = at (votes-of-line-few l q o (suc from
 pub votes-few : (e : ℕ) (lines : List ℕ) (q : ℕ) → ((k : ℕ) → getD lines k 0 ≤ 4095) → (o : ℕ) → votes e lines o q ≤ 1024 * length lines
 votes-few e [] q h o = omega arith
 votes-few e (l ∷ lines) q h o =
-    omega (arith, votes-few e lines q (λ k. h (suc k)) o, turns e l (minPitch e) refl (h 0), votes-of-line-few l q o (l / maxPitch e) (suc (l / minPitch e) - l / maxPitch e))
+    let first = votes-of-line-few l q o (l / maxPitch e) (suc (l / minPitch e) - l / maxPitch e) in
+    omega (arith, votes-few e lines q (λ k. h (suc k)) o, turns e l (minPitch e) refl (h 0), first)

@@ -1,5 +1,6 @@
--- The search of the definition, offsets first, finds the best of the searched range: a pair is never replaced by a later one with as many votes.
--- So does the search of the code, one q after another, and there is only one best. Assumes nothing.
+-- The search of the definition, offsets first, finds the best of the searched range: a pair is never replaced by a
+-- later one with as many votes. So does the search of the code, one q after another, and there is only one best.
+-- Assumes nothing.
 use Prim.Native.Nat.{ℕ, zero, suc, _+_, _-_, _*_, _≤_, _<_}
 use mathlib.Core.Path.{_≡_, refl, sym}
 use mathlib.Core.Logic.{_⊎_, ⊎-elim}
@@ -12,7 +13,8 @@ use lib.ListN.{getD}
 use Rattle.votes.specs.declared.Choice.{Choice}
 use Rattle.votes.specs.Votes.{maxPitch, minPitch, lastOffset, votes, better, overQuarters, overOffsets, winner}
 use Rattle.votes.specs.VoteSearch.{Added, Block, Picks}
-use Rattle.votes.proofs.Best.{ahead-more, ahead-tie, pair, pair-kept, pair-taken, picks-none, picks-one, picks-low, block-same, quarters-on, offsets-on}
+use Rattle.votes.proofs.Best.{ahead-more, ahead-tie, pair, pair-kept, pair-taken, picks-none, picks-one}
+use Rattle.votes.proofs.Best.{picks-low, block-same, quarters-on, offsets-on}
 
 -- what is searched from (o, q) on comes after a
 record Before (a : Choice) (o q : ℕ) : Type 0 where
@@ -31,9 +33,12 @@ module _ (e : ℕ) (lines : List ℕ) where
   better-picks : (a : Choice) (o q : ℕ) → Before a o q → Picks (Block (votes e lines) o 1 q 1) a (better a (pair (votes e lines) o q))
   better-picks a o q h = go (ltb (a .votes) (votes e lines o q)) refl
     where
-      go : (t : Bool) → ltb (a .votes) (votes e lines o q) ≡ t → Picks (Block (votes e lines) o 1 q 1) a (better a (pair (votes e lines) o q))
+      go : (t : Bool) → ltb (a .votes) (votes e lines o q) ≡ t
+          → Picks (Block (votes e lines) o 1 q 1) a (better a (pair (votes e lines) o q))
       go true t = rw t (pair-taken (votes e lines) o q (ahead-more (ltb-true (a .votes) (votes e lines o q) t)))
-      go false t = rw t (pair-kept (votes e lines) o q (ahead-tie (ltb-false (a .votes) (votes e lines o q) t) (h .offset) (λ x. h .quarter (sym x))))
+      go false t =
+          let few = ltb-false (a .votes) (votes e lines o q) t in
+          rw t (pair-kept (votes e lines) o q (ahead-tie few (h .offset) (λ x. h .quarter (sym x))))
 
   -- what was picked among the values of q of one offset comes before the next q, and before the next offset
   before-next : {a r : Choice} {o q m p : ℕ} → p ≡ q + m → Before a o q → Picks (Block (votes e lines) o 1 q m) a r → Before r o p
@@ -78,7 +83,8 @@ module _ {f : ℕ → ℕ → ℕ} {width from end : ℕ} where
   pub passed-none : Passed f width from end from nothing
   passed-none = record { low = omega arith; high = omega arith; picks = picks-none (λ c b. omega (arith, b .quarters)) }
 
-  pub passed-more : {q : ℕ} {a r : Choice} → Passed f width from end q a → q < end → Picks (Block f 0 width q 1) a r → Passed f width from end (q + 1) r
+  pub passed-more : {q : ℕ} {a r : Choice} → Passed f width from end q a → q < end → Picks (Block f 0 width q 1) a r
+      → Passed f width from end (q + 1) r
   passed-more {q} p h s =
       let l = p .low in
       let n : q ≡ from + (q - from) = omega arith in

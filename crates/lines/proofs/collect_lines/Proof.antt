@@ -1,15 +1,14 @@
--- `lines::collect_lines` meets its contract. The invariant: the lines that were collected and those still to come make all lines. The places left fall.
-use Rattle.lists.specs.Tab.{tab}
-use Rattle.lines.specs.Lines.{keep}
-use Rattle.lines.proofs.Collecting.{places-all}
+-- `lines::collect_lines` meets its contract. The invariant: the lines that were collected and those still to come make
+-- all lines. The places left fall.
 use Prim.Native.Nat.{_-_, _≤_}
 use mathlib.Core.Logic.{⊎-elim}
 use mathlib.Core.Path.{_≡_, refl, sym, _∙_}
 use native.Mathlib.Omega.{arith}
 use denote.Ref.{now}
 use lib.ListN.{length}
-use Rattle.lines.specs.Lines.{isLine}
-use Rattle.lines.proofs.Collecting.{Collected, collected-none, collected-kept, collected-passed, collected-all, placesFrom, places-next, places-none}
+use Rattle.lines.specs.Lines.{isLine, placesOf}
+use Rattle.lines.proofs.Collecting.{Collected, collected-none, collected-kept, collected-passed, collected-all}
+use Rattle.lines.proofs.Collecting.{placesFrom, places-all, places-next, places-none}
 use borrow.Author.Needs.{needs}
 use Rattle.lines.proofs.collect_lines.Statement.{statement}
 use Rattle.lines.proofs.collect_lines.Tie as tie
@@ -19,10 +18,13 @@ Inv-loop th t lines₀ n₀ i₀ i-end lines n i =
     (i ≤ length t)
     × (n ≤ i)
     × (i-end ≡ length t)
-    × Collected (keep (isLine th t) (tab (length t) (λ k. k))) (placesFrom (isLine th t) i (length t)) n lines₀ lines
+    × Collected (placesOf th t) (placesFrom (isLine th t) i (length t)) n lines₀ lines
 
 abbrev μ-loop : tie.MeasureT-loop
 μ-loop th t lines₀ n₀ i₀ i-end lines n i = length t - i
+
+abbrev start : tie.At-loop Inv-loop μ-loop → tie.Start Inv-loop μ-loop
+start c = c .before .before .before
 
 loop-holds : tie.Need-loop-holds Inv-loop μ-loop
 loop-holds c =
@@ -52,8 +54,9 @@ loop-less c = search needs
 
 loop-again : tie.Need-loop-again Inv-loop μ-loop
 loop-again c =
-    let a = c .before .before .before .before .before .before .args in
-    let at = c .before .before .before .loop in
+    let from = c .before .before .before in
+    let a = start from .args in
+    let at = from .loop in
     let h = at .inv in
     let next = places-next (isLine (a .th) (now (a .t))) (at .i) (length (now (a .t))) (omega arith) in
     let flag = sym (c .before .is-line .ensures) in
@@ -67,7 +70,7 @@ same-length c = c .before .loop .inv .3 .front .len
 
 returns : tie.Need-returns Inv-loop μ-loop
 returns c =
-    let a = c .before .before .before .before .args in
+    let a = start (c .before) .args in
     let none = places-none (isLine (a .th) (now (a .t))) (c .before .loop .i) (length (now (a .t))) (omega arith) in
     collected-all (rw none at (c .before .loop .inv .3))
 

@@ -8,6 +8,9 @@ use borrow.Author.Needs.{needs}
 use Rattle.lines.proofs.is_line.Statement.{statement}
 use Rattle.lines.proofs.is_line.Tie as tie
 
+abbrev start : tie.After-row-known → tie.Start
+start c = c .before .before .before
+
 mul-v : tie.Need-mul-v
 mul-v c = search needs
 
@@ -15,7 +18,7 @@ shared-slice-read-v : tie.Need-shared-slice-read-v
 shared-slice-read-v c = search needs
 
 int-to-float-if1 : tie.Need-int-to-float-if1
-int-to-float-if1 c = let at = c .before .before .before in in-float (omega (arith, at .pre .1, largest-at (now (at .args .t)) (at .args .i)))
+int-to-float-if1 c = let at = start c in in-float (omega (arith, at .pre .1, largest-at (now (at .args .t)) (at .args .i)))
 
 seven-before-requires : tie.Need-seven-before-requires
 seven-before-requires c κs = search needs
@@ -25,14 +28,17 @@ seven-behind-requires c κs = search needs
 
 stands-out-requires : tie.Need-stands-out-requires
 stands-out-requires c κs =
-    let a = c .before .before .before .before .before .before .args in
+    let a = start (c .before .before .before) .args in
     rw
     (c .before .seven-before .ensures, c .seven-behind .ensures)
     (before-short (now (a .t)) (a .i), behind-short (now (a .t)) (a .i))
 
 returns : tie.Need-returns
 unfolding isLine
-returns c = rw (c .before .before .before .if1 .taken, c .stands-out .ensures, c .before .before .seven-before .ensures, c .before .seven-behind .ensures)
+returns c =
+    let behind = c .before in
+    let before = behind .before in
+    rw (before .before .if1 .taken, c .stands-out .ensures, before .seven-before .ensures, behind .seven-behind .ensures)
 
 returns-2 : tie.Need-returns-2
 unfolding isLine

@@ -1,4 +1,5 @@
--- `lines::largest_of` meets its contract. The invariant: what was found and the rest have the largest of the whole list. What is left of it falls.
+-- `lines::largest_of` meets its contract. The invariant: what was found and the rest have the largest of the whole
+-- list. What is left of it falls.
 use Prim.Native.Nat.{_-_, _≤_, max}
 use mathlib.Core.Path.{_≡_}
 use native.Mathlib.Omega.{arith}

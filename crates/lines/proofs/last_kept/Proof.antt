@@ -9,7 +9,9 @@ use Rattle.lines.proofs.last_kept.Statement.{statement}
 use Rattle.lines.proofs.last_kept.Tie as tie
 
 returns : tie.Need-returns
-returns c = let a = c .before .before .args in (omega arith, take-length (now (a .lines)) ∙ last-alone (a .e) (now (a .lines)) (c .if1 .taken))
+returns c =
+    let a = c .before .before .args in
+    (omega arith, take-length (now (a .lines)) ∙ last-alone (a .e) (now (a .lines)) (c .if1 .taken))
 
 narrow-after-requires : tie.Need-narrow-after-requires
 narrow-after-requires c κs = search needs

@@ -11,8 +11,15 @@ use borrow.Author.Needs.{needs}
 use Rattle.lines.proofs.stands_out.Statement.{statement}
 use Rattle.lines.proofs.stands_out.Tie as tie
 
+-- the places that the others follow
+abbrev start : tie.Else1 → tie.Start
+start c = c .before .before .before .before
+
+abbrev at-first : tie.Else2 → tie.Else1
+at-first c = c .before .before
+
 -- none before is larger
-passed : (c : tie.Else1) → leb (largest (now (c .before .before .before .before .args .a))) (c .before .before .before .before .args .v) ≡ true
+passed : (c : tie.Else1) → leb (largest (now (start c .args .a))) (start c .args .v) ≡ true
 passed c = le-leb _ _ (rw (c .before .largest-of .ensures) at (c .if1 .left))
 
 largest-of-requires : tie.Need-largest-of-requires
@@ -35,16 +42,17 @@ count-equal-requires-2 c κs = search needs
 
 balanced-requires : tie.Need-balanced-requires
 balanced-requires c κs =
-    let at = c .before .before .before .before .before .before .before .before in (
+    let at = start (at-first (c .before .before)) in (
       omega (arith, c .before .count-equal .ensures, count-le (λ x. eqb x (at .args .v)) (now (at .args .a))),
       omega (arith, c .count-equal2 .ensures, count-le (λ x. eqb x (at .args .v)) (now (at .args .b))),
     )
 
 returns-3 : tie.Need-returns-3
 returns-3 c =
-    let behind = le-leb _ _ (rw (c .before .before .before .before .largest-of2 .ensures) at (c .before .before .before .if2 .left)) in
+    let test = c .before .before .before in
+    let behind = le-leb _ _ (rw (test .before .largest-of2 .ensures) at (test .if2 .left)) in
     let few = c .before .before .count-equal .ensures in
-    rw (passed (c .before .before .before .before .before), behind, c .balanced .ensures, few, c .before .count-equal2 .ensures)
+    rw (passed (at-first test), behind, c .balanced .ensures, few, c .before .count-equal2 .ensures)
 
 pub stands-out-spec : {M : Type 1} → statement M
 stands-out-spec =

@@ -1,4 +1,5 @@
--- `lines::wide_gaps` meets its contract. The invariant: the wide gaps that were collected and those still to come make all. The entries left fall.
+-- `lines::wide_gaps` meets its contract. The invariant: the wide gaps that were collected and those still to come make
+-- all. The entries left fall.
 use borrow.Author.Tests.{lt-ltb, le-ltb}
 use Prim.Native.Nat.{_+_, _-_, _≤_, max}
 use mathlib.Core.Logic.{⊎-elim}
@@ -7,7 +8,8 @@ use native.Mathlib.Omega.{arith}
 use denote.Ref.{now}
 use lib.ListN.{length}
 use Rattle.lines.specs.Lines.{wideGaps}
-use Rattle.lines.proofs.Collecting.{Collected, collected-none, collected-kept, collected-passed, collected-all, gapsFrom, wide-next, wide-none}
+use Rattle.lines.proofs.Collecting.{Collected, collected-none, collected-kept, collected-passed, collected-all}
+use Rattle.lines.proofs.Collecting.{gapsFrom, wide-next, wide-none}
 use borrow.Author.Needs.{needs}
 use Rattle.lines.proofs.wide_gaps.Statement.{statement}
 use Rattle.lines.proofs.wide_gaps.Tie as tie
@@ -18,6 +20,9 @@ Inv-loop lines out₀ n₀ k₀ k-end out n k =
 
 abbrev μ-loop : tie.MeasureT-loop
 μ-loop lines out₀ n₀ k₀ k-end out n k = length lines - k
+
+abbrev start : tie.At-loop Inv-loop μ-loop → tie.Start Inv-loop μ-loop
+start c = c .before .before .before
 
 loop-holds : tie.Need-loop-holds Inv-loop μ-loop
 loop-holds c = (omega arith, omega arith, omega arith, refl, collected-none)
@@ -57,10 +62,11 @@ loop-less c = search needs
 
 loop-again : tie.Need-loop-again Inv-loop μ-loop
 loop-again c =
-    let at = c .before .before .before .before .before .loop in
+    let from = c .before .before .before .before .before in
+    let at = from .loop in
     let i = at .inv in
     let g = c .before .gap .result in
-    let l = now (c .before .before .before .before .before .before .before .before .args .lines) in
+    let l = now (start from .args .lines) in
     let next = wide-next (at .k) g l (omega arith) (omega arith) (c .before .gap .ensures) in
     ⊎-elim
     (λ w. (
@@ -78,7 +84,7 @@ same-length c = c .before .loop .inv .4 .front .len
 
 returns : tie.Need-returns Inv-loop μ-loop
 returns c =
-    let none = wide-none (c .before .loop .k) (now (c .before .before .before .before .args .lines)) (omega arith) in
+    let none = wide-none (c .before .loop .k) (now (start (c .before) .args .lines)) (omega arith) in
     collected-all (rw none at (c .before .loop .inv .4))
 
 pub wide-gaps-spec : {M : Type 1} → statement M

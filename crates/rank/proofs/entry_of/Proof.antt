@@ -38,7 +38,8 @@ loop-less c = search needs
 loop-again : tie.Need-loop-again Inv-loop μ-loop
 loop-again c =
     let at = c .before .before .before in
-    (between-left self 0 _ (at .loop .inv .0) (at .before .if1 .left) (omega (arith, c .if2 .taken, c .before .count-at-most .ensures)), omega arith)
+    let more = c .before .count-at-most .ensures in
+    (between-left self 0 _ (at .loop .inv .0) (at .before .if1 .left) (omega (arith, c .if2 .taken, more)), omega arith)
 
 add-lo : tie.Need-add-lo Inv-loop μ-loop
 add-lo c = search needs
@@ -49,7 +50,8 @@ loop-less-2 c = search needs
 loop-again-2 : tie.Need-loop-again-2 Inv-loop μ-loop
 loop-again-2 c =
     let at = c .before .before .before in
-    (between-right self 0 _ (at .loop .inv .0) (at .before .if1 .left) (omega (arith, c .if2 .left, c .before .count-at-most .ensures)), at .loop .inv .1)
+    let few = c .before .count-at-most .ensures in
+    (between-right self 0 _ (at .loop .inv .0) (at .before .if1 .left) (omega (arith, c .if2 .left, few)), at .loop .inv .1)
 
 returns-2 : tie.Need-returns-2 Inv-loop μ-loop
 returns-2 c = omega (arith, c .before .loop .inv .0 .low, c .before .loop .inv .0 .high)

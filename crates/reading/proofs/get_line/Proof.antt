@@ -19,7 +19,8 @@ start c = c .before .before .before .before
 abbrev at-quarters : tie.After-slice-known2 → tie.After-quarters-of
 at-quarters c = c .before .before
 
-fits : (c : tie.Else1) → InLimits (now (start c .args .list)) × (4 * length (now (start c .args .list)) ≤ length (now (start c .args .scratch)))
+fits : (c : tie.Else1)
+    → InLimits (now (start c .args .list)) × (4 * length (now (start c .args .list)) ≤ length (now (start c .args .scratch)))
 fits c = line-fit (now (start c .args .list)) (length (now (start c .args .scratch))) (sym (c .before .line-answer .ensures) ∙ c .if1 .left)
 
 line-answer-requires : tie.Need-line-answer-requires
@@ -34,10 +35,10 @@ mul-room : tie.Need-mul-room
 mul-room c = search needs
 
 slice-relend-prefix-quarters-of : tie.Need-slice-relend-prefix-quarters-of
-slice-relend-prefix-quarters-of c = fits c .1
+slice-relend-prefix-quarters-of c = omega (arith, fits c .1)
 
 slice-aggregate-quarters-of : tie.Need-slice-aggregate-quarters-of
-slice-aggregate-quarters-of c = sym (length-take-le _ _ (fits (c .before) .1))
+slice-aggregate-quarters-of c = sym (length-take-le _ _ (omega (arith, fits (c .before) .1)))
 
 quarters-of-requires : tie.Need-quarters-of-requires
 quarters-of-requires c κs = (fits (c .before) .0, simp length-take (omega (arith, fits (c .before) .1)))

@@ -40,7 +40,8 @@ returns-5 : tie.Need-returns-5
 returns-5 c =
     let at = start (c .before .before .before) in
     let low = c .before .largest-of .ensures in
-    fit-answer (list at) (at .args .scratch) (record { shortest = omega arith; longest = omega arith; entries = omega (arith, low) }) (omega arith)
+    fit-answer (list at) (at .args .scratch)
+    (record { shortest = omega arith; longest = omega arith; entries = omega (arith, low) }) (omega arith)
 
 pub line-answer-spec : {M : Type 1} → statement M
 line-answer-spec =

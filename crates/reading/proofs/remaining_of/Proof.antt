@@ -1,5 +1,5 @@
--- `reading::remaining_of` meets its contract: the lines stand at the front of the array, the gaps at the front of the scratch, and each answer follows
--- from what the calls hand on.
+-- `reading::remaining_of` meets its contract: the lines stand at the front of the array, the gaps at the front of the
+-- scratch, and each answer follows from what the calls hand on.
 use Prim.Native.Nat.{ℕ, _-_, _≤_, _<_}
 use mathlib.Core.Path.{_≡_, sym, _∙_}
 use mathlib.Core.List.{List}
@@ -150,10 +150,11 @@ returns-3 : tie.Need-returns-3
 returns-3 c =
     let near = at-near c in
     let found = found-by (near .before) in
-    let left : Remains (near .before .chosen-gap .result) (linesOf (list found)) (c .kept-range .result .from) (c .kept-range .result .end) =
-    rw (found-is found) at (c .kept-range .ensures) in
-    standing (list found) (start found .pre .0) (found .find-lines .ensures .1) left (e-is (near .before)) (some (at-some (near .before)))
-    (omega (arith, near .if2 .left))
+    let e = near .before .chosen-gap .result in
+    let kept = c .kept-range .result in
+    let left : Remains e (linesOf (list found)) (kept .from) (kept .end) = rw (found-is found) at (c .kept-range .ensures) in
+    standing (list found) (start found .pre .0) (found .find-lines .ensures .1) left (e-is (near .before))
+    (some (at-some (near .before))) (omega (arith, near .if2 .left))
 
 pub remaining-of-spec : {M : Type 1} → statement M
 remaining-of-spec =

@@ -1,4 +1,5 @@
--- `votes::ahead` meets its contract: `best` stays with more votes, or with as many and no larger offset, and else the new pair is ahead of it.
+-- `votes::ahead` meets its contract: `best` stays with more votes, or with as many and no larger offset, and else the
+-- new pair is ahead of it.
 use native.Mathlib.Omega.{arith}
 use Rattle.votes.proofs.Best.{ahead-more, ahead-tie, pair-kept, pair-taken}
 use Rattle.votes.proofs.ahead.Statement.{statement}

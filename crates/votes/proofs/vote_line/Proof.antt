@@ -1,4 +1,5 @@
--- `votes::vote_line` meets its contract. The invariant: what was added and the votes of the n to come make the whole. What is left of the n falls.
+-- `votes::vote_line` meets its contract. The invariant: what was added and the votes of the n to come make the whole.
+-- What is left of the n falls.
 use Prim.Native.Nat.{_-_}
 use mathlib.Core.Path.{_≡_, refl}
 use native.Mathlib.Nat.{mul-le-mul}

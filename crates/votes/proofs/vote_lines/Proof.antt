@@ -1,4 +1,5 @@
--- `votes::vote_lines` meets its contract. The invariant: what was added and the votes of the lines to come make the whole. What is left of the lines falls.
+-- `votes::vote_lines` meets its contract. The invariant: what was added and the votes of the lines to come make the
+-- whole. What is left of the lines falls.
 use Prim.Native.Nat.{_-_, _≤_}
 use mathlib.Core.Path.{_≡_, refl}
 use native.Mathlib.Omega.{arith}
@@ -61,7 +62,8 @@ vote-line-requires c κs =
     let at = at-loop c .loop in
     let first = start (at-loop c) in
     let a = first .args in
-    let more = votes-more (a .e) (now (a .lines)) (at .k) (a .q) _ _ (omega arith) (c .before .max-pitch .ensures) (c .min-pitch .ensures) in (
+    let most = c .before .max-pitch .ensures in
+    let more = votes-more (a .e) (now (a .lines)) (at .k) (a .q) _ _ (omega arith) most (c .min-pitch .ensures) in (
       (omega arith, first .pre .0 .1 (at .k), first .pre .0 .2, turns (a .e) _ _ (c .min-pitch .ensures) (first .pre .0 .1 (at .k))),
       adding-fits _ _ (at .inv .3) (first .pre .1) more,
     )
@@ -77,7 +79,8 @@ loop-again c =
     let calls = c .before .before .before in
     let at = at-loop calls .loop in
     let a = start (at-loop calls) .args in
-    let more = votes-more (a .e) (now (a .lines)) (at .k) (a .q) _ _ (omega arith) (calls .before .max-pitch .ensures) (calls .min-pitch .ensures) in
+    let most = calls .before .max-pitch .ensures in
+    let more = votes-more (a .e) (now (a .lines)) (at .k) (a .q) _ _ (omega arith) most (calls .min-pitch .ensures) in
     let next = adding-more (at .inv .3) (c .before .before .vote-line .ensures) more in
     (omega arith, refl, next .len, next)
 

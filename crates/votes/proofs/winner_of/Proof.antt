@@ -1,5 +1,6 @@
--- `votes::winner_of` meets its contract. The invariant: best is the best of all offsets with the values of q passed; the row keeps its length.
--- The values of q to come fall. At the end it is the best of the searched range, and there is only one.
+-- `votes::winner_of` meets its contract. The invariant: best is the best of all offsets with the values of q passed;
+-- the row keeps its length. The values of q to come fall. At the end it is the best of the searched range, and there is
+-- only one.
 use Prim.Native.Nat.{_-_}
 use mathlib.Core.Path.{_≡_, refl, _∙_}
 use native.Mathlib.Omega.{arith}
