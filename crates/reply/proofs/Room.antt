@@ -1,5 +1,5 @@
 -- `room` bytes are enough: what is printed for an input is what is printed for its first `room` bytes. Loading looks at the numbers of the
--- pixels alone and at whether there are so many, and the first two lines are found in the front of the input (screens' Front). Assumes nothing.
+-- pixels alone and at whether there are so many, and the first two lines are found in the front of the input (header's Cut). Assumes nothing.
 use Prim.Native.Nat.{ℕ, _+_, _-_, _*_, _/_, _%_, _≤_, _<_}
 use mathlib.Core.Path.{_≡_, refl, ap, _∙_}
 use mathlib.Core.Bool.{Bool, true, false, cond}
@@ -16,15 +16,14 @@ use Rattle.board.specs.Board.{fresh}
 use Rattle.board.specs.Screen.{packed}
 use Rattle.load.specs.Load.{ofByte, level, shown, loadAnswer}
 use Rattle.locate.specs.Locate.{found}
-use Rattle.screens.specs.declared.Input.{Input}
-use Rattle.screens.specs.declared.Input.the-variants.{Sides, Refused}
-use Rattle.screens.specs.declared.Values.{Values}
-use Rattle.screens.specs.Header.{headerOf}
-use Rattle.screens.specs.Text.{alone}
-use Rattle.screens.proofs.Front.{drop-take, header-front}
-use Rattle.screen.specs.Screen.{located, valuesOf, valuesFor, answerTo, room}
-use Rattle.screen.proofs.Printed.{area}
-use Rattle.screen.proofs.Sides.{Shown, header-shown}
+use Rattle.header.specs.declared.Input.{Input}
+use Rattle.header.specs.declared.Input.the-variants.{Sides, Refused}
+use Rattle.header.specs.Header.{headerOf}
+use Rattle.header.proofs.Cut.{drop-take, header-front}
+use Rattle.header.proofs.Sides.{Shown, header-shown}
+use Rattle.reply.specs.Values.{located, alone}
+use Rattle.reply.specs.Answer.{valuesOf, valuesFor, answerTo, room}
+use Rattle.reply.proofs.Locating.{area}
 
 -- a cut at m leaves a test of the length below m as it was
 test-front : (pixels : List ℕ) (m n : ℕ) → n ≤ m → ltb (length (take m pixels)) n ≡ ltb (length pixels) n
@@ -35,7 +34,7 @@ test-front pixels m n h = go (ltb (length pixels) n) refl
     go false e = le-ltb _ n (simp length-take (omega (arith, ltb-false (length pixels) n e)))
 
 -- what is printed where loading answers this and leaves these planes
-abbrev printed : ℕ → ℕ → ℕ → List Float → Values
+abbrev printed : ℕ → ℕ → ℕ → List Float → List ℕ
 printed h w answer planes = cond (eqb answer 0) (located (found (fresh h w) planes)) (alone answer)
 
 module _ (h w : ℕ) (pixels : List ℕ) (m : ℕ) (whole : 4 * (h * w) ≤ m) where

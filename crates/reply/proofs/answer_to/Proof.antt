@@ -1,11 +1,11 @@
--- `screen::answer_to` meets its contract: the sides are those that the first two lines show, and the pixels stand behind them.
+-- `reply::answer_to` meets its contract: the sides are those that the first two lines show, and the pixels stand behind them.
 use mathlib.Core.Path.{sym, _∙_}
 use denote.Ref.{now}
-use Rattle.screen.specs.Screen.{valuesFor, answerTo}
-use Rattle.screen.proofs.Sides.{header-shown}
+use Rattle.reply.specs.Answer.{valuesFor, answerTo}
+use Rattle.header.proofs.Sides.{header-shown}
 use borrow.Author.Needs.{needs}
-use Rattle.screen.proofs.answer_to.Statement.{statement}
-use Rattle.screen.proofs.answer_to.Tie as tie
+use Rattle.reply.proofs.answer_to.Statement.{statement}
+use Rattle.reply.proofs.answer_to.Tie as tie
 
 header-requires : tie.Need-header-requires
 header-requires c κs = search needs
