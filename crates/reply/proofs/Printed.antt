@@ -8,7 +8,7 @@ use native.Mathlib.Omega.{arith}
 use borrow.Author.Tests.{eq-eqb, ne-eqb}
 use lib.Dec.{eqb}
 use lib.Ieee.{Float, binary32, ofBits}
-use lib.ListN.{length, getD, take, replicate, length-append, length-replicate}
+use lib.ListN.{length, getD, take, drop, replicate, length-append, length-replicate}
 use lib.Seq.{length-take-le, take-at}
 use Rattle.board.specs.Board.{leastSide, fresh}
 use Rattle.board.specs.Planes.{FitPlanes}
@@ -17,7 +17,9 @@ use Rattle.load.specs.Load.{ofByte, loadAnswer, LoadGives}
 use Rattle.locate.specs.declared.Located.{Located}
 use Rattle.locate.specs.Locate.{found}
 use Rattle.reply.specs.Values.{located, alone}
-use Rattle.reply.specs.Answer.{valuesOf}
+use Rattle.header.specs.declared.Input.the-variants.{Sides, Refused}
+use Rattle.header.specs.Header.{headerOf}
+use Rattle.reply.specs.Answer.{valuesOf, valuesFor, answerTo}
 use Rattle.reply.proofs.Loading.{planesOf, planes-length, answer-is, planes-are, board-is, planes-fit}
 use Rattle.reply.proofs.Locating.{area}
 
@@ -63,3 +65,14 @@ module _ {h w : ℕ} {pixels : List ℕ} {r : Loaded} {before after : List Float
         let is : found (r .board) (take (3 * (h * w)) (after ++ rest)) ≡ found (fresh h w) (planesOf h w pixels) =
         rw (board-is loads sized accepted, lent-is) in
         ap located (e ∙ is) ∙ sym values-are
+
+-- ---- what is printed as the first two lines are read
+
+pub for-sides : (bytes : List ℕ) {pixels : List ℕ} {h w at : ℕ} → headerOf bytes ≡ Sides h w at → pixels ≡ drop at bytes
+    → valuesOf h w pixels ≡ answerTo bytes
+unfolding answerTo valuesFor
+for-sides bytes {h = h} {w = w} e p = ap (valuesOf h w) p ∙ sym (ap (valuesFor bytes) e)
+
+pub for-refusal : (bytes : List ℕ) {n : ℕ} → headerOf bytes ≡ Refused n → alone n ≡ answerTo bytes
+unfolding answerTo valuesFor
+for-refusal bytes e = sym (ap (valuesFor bytes) e)

@@ -1,8 +1,8 @@
 -- `reply::answer_to` meets its contract: the sides are those that the first two lines show, and the pixels stand behind them.
 use mathlib.Core.Path.{sym, _∙_}
 use denote.Ref.{now}
-use Rattle.reply.specs.Answer.{valuesFor, answerTo}
 use Rattle.header.proofs.Sides.{header-shown}
+use Rattle.reply.proofs.Printed.{for-sides, for-refusal}
 use borrow.Author.Needs.{needs}
 use Rattle.reply.proofs.answer_to.Statement.{statement}
 use Rattle.reply.proofs.answer_to.Tie as tie
@@ -18,7 +18,9 @@ pixels-requires c κs = search needs
 
 values-of-requires : tie.Need-values-of-requires
 values-of-requires c κs =
-    let shown = rw (sym (c .before .before .before .before .header .ensures) ∙ c .before .before .height .given .1) at (header-shown (now (c .before .before .before .before .before .before .args .bytes))) in
+    let read = c .before .before in
+    let header = read .before .before in
+    let shown = rw (sym (header .header .ensures) ∙ read .height .given .1) at (header-shown (now (header .before .before .args .bytes))) in
     (shown .0, shown .1)
 
 enum-known-n : tie.Need-enum-known-n
@@ -28,12 +30,17 @@ alone-requires : tie.Need-alone-requires
 alone-requires c κs = search needs
 
 returns : tie.Need-returns
-unfolding answerTo valuesFor
-returns c = rw (sym (c .before .before .before .before .before .header .ensures) ∙ c .before .before .before .height .given .1) (rw (c .before .pixels .ensures) at (c .values-of .ensures))
+returns c =
+    let read = c .before .before .before in
+    let header = read .before .before in
+    c .values-of .ensures
+    ∙ for-sides (now (header .before .before .args .bytes)) (sym (header .header .ensures) ∙ read .height .given .1) (c .before .pixels .ensures)
 
 returns-2 : tie.Need-returns-2
-unfolding answerTo valuesFor
-returns-2 c = rw (sym (c .before .before .before .before .header .ensures) ∙ c .before .before .n .given .1) (c .alone .ensures)
+returns-2 c =
+    let read = c .before .before in
+    let header = read .before .before in
+    c .alone .ensures ∙ for-refusal (now (header .before .before .args .bytes)) (sym (header .header .ensures) ∙ read .n .given .1)
 
 pub answer-to-spec : {M : Type 1} → statement M
 answer-to-spec =
