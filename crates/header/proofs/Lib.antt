@@ -1,0 +1,4 @@
+pub mod Cut
+pub mod Numbers
+pub mod Prefix
+pub mod Sides

@@ -1,0 +1,5 @@
+pub mod Fitting
+pub mod Loading
+pub mod Locating
+pub mod Printed
+pub mod Room

@@ -1,0 +1,114 @@
+// What the screen program prints for the bytes that it read (01, "Screen program"): the screen is loaded and located, and its values are written in
+// two lines. It answers 11, 1, 2 and locating's. Definitions: specs/Values (the values and the two lines), specs/Answer (which values).
+ghost use mathlib.Core.Path.{_≡_};
+ghost use mathlib.Core.List.{List};
+ghost use Prim.Native.Nat.{ℕ, _≤_};
+ghost use lib.ListN.{length, take};
+ghost use Rattle.lists.specs.Front.{AtFront};
+ghost use Rattle.board.specs.Board.{leastSide};
+ghost use Rattle.board.specs.Planes.{FitPlanes};
+ghost use Rattle.locate.specs.Locate.{found};
+ghost use Rattle.header.specs.Header.{mostShown};
+ghost use Rattle.reply.specs.Values as Spec;
+ghost use Rattle.reply.specs.Values.{textOf};
+ghost use Rattle.reply.specs.Answer.{valuesOf, answerTo, room};
+use board::Board;
+use header::Input;
+use locate::Located;
+
+// What is printed of a located screen.
+fn located(l: Located) -> [u64; 14]
+    ensures { λ r. ⌜ r ≡ Spec.located l ⌝ }
+{
+    let b = l.board;
+    [
+        l.answer as u64,
+        b.r as u64,
+        b.c as u64,
+        b.r_1 as u64,
+        b.c_1 as u64,
+        b.r0 as u64,
+        b.c0 as u64,
+        l.quarterr as u64,
+        l.quarterc as u64,
+        l.votesr as u64,
+        l.votesc as u64,
+        l.narrowed as u64,
+        b.height as u64,
+        b.width as u64,
+    ]
+}
+
+// What is printed where loading refused or the first two lines are bad.
+fn alone(answer: u32) -> [u64; 14]
+    ensures { λ r. ⌜ r ≡ Spec.alone answer ⌝ }
+{
+    [answer as u64, 0, 0, 0, 0, 0, 0, 0, 0, 0, 0, 0, 0, 0]
+}
+
+// Locates a screen of at most 64 by 64 whose planes are fit.
+fn locate_shown(b: Board, planes: &mut [f32]) -> Located
+    requires { ⌜ FitPlanes leastSide (b .height) (b .width) (now planes) × (b .height ≤ mostShown) × (b .width ≤ mostShown) ⌝ }
+    ensures { λ r. ⌜ r ≡ found b (now (planes .entry)) ⌝ }
+{
+    let mut edges: [u8; 4096] = [0; 4096];
+    let mut scores: [u32; 128] = [0; 128];
+    let mut scratch_f32: [f32; 4096] = [0.0; 4096];
+    let mut scratch_u8: [u8; 4096] = [0; 4096];
+    let mut scratch_u32: [u32; 512] = [0; 512];
+    locate::get_pos_pixel(
+        b,
+        planes,
+        &mut edges,
+        &mut scores,
+        &mut scratch_f32,
+        &mut scratch_u8,
+        &mut scratch_u32,
+    )
+}
+
+// Loads and locates a screen of at most 64 by 64. The planes lent are the screen's and no longer, so that the definition names no buffer.
+fn values_of(height: usize, width: usize, pixels: &[u8]) -> [u64; 14]
+    requires { ⌜ (height ≤ mostShown) × (width ≤ mostShown) ⌝ }
+    ensures { λ r. ⌜ r ≡ valuesOf height width (now (pixels .entry)) ⌝ }
+{
+    let mut planes: [f32; 12288] = [0.0; 12288];
+    let n = 3 * (height * width);
+    let loaded = load::new(height, width, pixels, &mut planes[..n]);
+    if loaded.answer != 0 {
+        return alone(loaded.answer);
+    }
+    located(locate_shown(loaded.board, &mut planes[..n]))
+}
+
+// What is printed for the bytes of the input.
+fn answer_to(bytes: &[u8]) -> [u64; 14]
+    ensures { λ r. ⌜ r ≡ answerTo (now (bytes .entry)) ⌝ }
+{
+    match header::header(bytes) {
+        Input::Sides { height, width, at } => values_of(height, width, header::pixels(bytes, at)),
+        Input::Refused(n) => alone(n),
+    }
+}
+
+// Writes the two lines to the front of `out`, and answers how many bytes they are.
+fn write_lines(values: &[u64], out: &mut [u8]) -> usize
+    requires { ⌜ length (textOf (now values)) ≤ length (now out) ⌝ }
+    ensures { λ r. ⌜ (r ≡ length (textOf (now (values .entry)))) × AtFront (textOf (now (values .entry))) (now (out .entry)) (now (out .exit)) ⌝ }
+{
+    let names =
+        b"answer rows columns r1 c1 r0 c0 quarterr quarterc votesr votesc narrowed height width\n";
+    let next = text::put_bytes(out, 0, names);
+    text::put_numbers(out, next, values)
+}
+
+// Everything but the input and the output: writes the two lines to the front of `out`, and answers how many bytes they are. They are those
+// of any input whose first `room` bytes, or all where it has fewer, are the n that were read.
+pub fn reply(bytes: &[u8], n: usize, out: &mut [u8]) -> usize
+    requires { ⌜ (length (now bytes) ≡ room) × (n ≤ room) × (380 ≤ length (now out)) ⌝ }
+    ensures { λ r. ⌜ ((input : List ℕ) → take room input ≡ take n (now (bytes .entry)) → (r ≡ length (textOf (answerTo input))) × AtFront (textOf (answerTo input)) (now (out .entry)) (now (out .exit))) ⌝ }
+    ensures { λ r. ⌜ r ≤ length (now (out .exit)) ⌝ }
+{
+    let values = answer_to(&bytes[..n]);
+    write_lines(&values, out)
+}

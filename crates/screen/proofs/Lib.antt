@@ -1,4 +1,0 @@
-pub mod Units
-pub mod Printed
-pub mod Sides
-pub mod Room
