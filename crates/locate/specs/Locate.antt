@@ -81,6 +81,10 @@ found b g =
     (declined sized 5 (l .narrowed))
     (joined sized (l .narrowed) (g .bounds) (quartersOf (g .columns)) (quartersOf (g .rows)))
 
+-- the same from planes that pass the checks
+abbrev pub foundIn : Board → List Float → Located
+foundIn b planes = found b (referenceOf (b .height) (b .width) planes)
+
 -- what is written to the score slice where the checks passed: after 5 nothing
 abbrev pub scoresOf : Reference → List ℕ
 scoresOf g = cond (g .last .tooSmall) [] (g .columns ++ g .rows)

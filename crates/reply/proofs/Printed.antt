@@ -13,9 +13,9 @@ use lib.Seq.{length-take-le, take-at}
 use Rattle.board.specs.Board.{leastSide, fresh}
 use Rattle.board.specs.Planes.{FitPlanes}
 use Rattle.load.specs.declared.Loaded.{Loaded}
-use Rattle.load.specs.Load.{ofByte, loadAnswer, LoadGives}
+use Rattle.load.specs.Load.{mostByte, loadAnswer, LoadGives}
 use Rattle.locate.specs.declared.Located.{Located}
-use Rattle.locate.specs.Locate.{found}
+use Rattle.locate.specs.Locate.{foundIn}
 use Rattle.reply.specs.Values.{located, alone}
 use Rattle.header.specs.declared.Input.the-variants.{Sides, Refused}
 use Rattle.header.specs.Header.{headerOf}
@@ -32,7 +32,7 @@ size {h} {w} a b =
 first : {A : Type 0} (answer : ℕ) (x y : A) → answer ≡ 0 → cond (eqb answer 0) x y ≡ x
 first answer x y e = rw (eq-eqb answer 0 e)
 
-module _ {h w : ℕ} {pixels : List ℕ} {r : Loaded} {before after : List Float} (loads : LoadGives ofByte h w pixels before r after)
+module _ {h w : ℕ} {pixels : List ℕ} {r : Loaded} {before after : List Float} (loads : LoadGives mostByte h w pixels before r after)
     (sized : length before ≡ 3 * (h * w)) where
   pub refused : (r .answer ≡ 0 → ⊥) → alone (r .answer) ≡ valuesOf h w pixels
   unfolding valuesOf
@@ -56,13 +56,13 @@ module _ {h w : ℕ} {pixels : List ℕ} {r : Loaded} {before after : List Float
         → FitPlanes leastSide (r .board .height) (r .board .width) (take (3 * (h * w)) (after ++ rest)) × (r .board .height ≤ 64) × (r .board .width ≤ 64)
     lent-fit byte a b = rw (board-is loads sized accepted, lent-is) (planes-fit loads sized accepted byte, a, b)
 
-    values-are : valuesOf h w pixels ≡ located (found (fresh h w) (planesOf h w pixels))
+    values-are : valuesOf h w pixels ≡ located (foundIn (fresh h w) (planesOf h w pixels))
     unfolding valuesOf
     values-are = first (loadAnswer h w (length pixels) (3 * (h * w))) _ _ (sym (answer-is loads sized) ∙ accepted)
 
-    pub prints : {l : Located} → l ≡ found (r .board) (take (3 * (h * w)) (after ++ rest)) → located l ≡ valuesOf h w pixels
+    pub prints : {l : Located} → l ≡ foundIn (r .board) (take (3 * (h * w)) (after ++ rest)) → located l ≡ valuesOf h w pixels
     prints {l} e =
-        let is : found (r .board) (take (3 * (h * w)) (after ++ rest)) ≡ found (fresh h w) (planesOf h w pixels) =
+        let is : foundIn (r .board) (take (3 * (h * w)) (after ++ rest)) ≡ foundIn (fresh h w) (planesOf h w pixels) =
         rw (board-is loads sized accepted, lent-is) in
         ap located (e ∙ is) ∙ sym values-are
 

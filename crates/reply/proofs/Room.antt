@@ -14,7 +14,7 @@ use lib.Seq.{getD-take}
 use Rattle.lists.proofs.Fill.{tab-same}
 use Rattle.board.specs.Board.{fresh}
 use Rattle.board.specs.Screen.{packed}
-use Rattle.load.specs.Load.{ofByte, level, shown, loadAnswer}
+use Rattle.load.specs.Load.{mostByte, level, shown, loadAnswer}
 use Rattle.locate.specs.Locate.{found}
 use Rattle.header.specs.declared.Input.{Input}
 use Rattle.header.specs.declared.Input.the-variants.{Sides, Refused}
@@ -38,10 +38,10 @@ abbrev printed : ℕ → ℕ → ℕ → List Float → List ℕ
 printed h w answer planes = cond (eqb answer 0) (located (found (fresh h w) planes)) (alone answer)
 
 module _ (h w : ℕ) (pixels : List ℕ) (m : ℕ) (whole : 4 * (h * w) ≤ m) where
-  level-front : (k n : ℕ) → n < h * w → shown ofByte h w (take m pixels) .px k (n / w) (n % w) ≡ shown ofByte h w pixels .px k (n / w) (n % w)
-  level-front k n l = ap (level ofByte) (getD-take m pixels (4 * (n / w * w + n % w) + (2 - k)) 0 (omega (arith, div-add-mod' n w)))
+  level-front : (k n : ℕ) → n < h * w → shown mostByte h w (take m pixels) .px k (n / w) (n % w) ≡ shown mostByte h w pixels .px k (n / w) (n % w)
+  level-front k n l = ap (level mostByte) (getD-take m pixels (4 * (n / w * w + n % w) + (2 - k)) 0 (omega (arith, div-add-mod' n w)))
 
-  planes-front : packed (shown ofByte h w (take m pixels)) ≡ packed (shown ofByte h w pixels)
+  planes-front : packed (shown mostByte h w (take m pixels)) ≡ packed (shown mostByte h w pixels)
   planes-front = tab-same (3 * (h * w)) _ _ (λ p l. level-front (p / (h * w)) (p % (h * w)) (mod-lt p (omega arith)))
 
   answer-front : loadAnswer h w (length (take m pixels)) (3 * (h * w)) ≡ loadAnswer h w (length pixels) (3 * (h * w))
@@ -51,7 +51,7 @@ module _ (h w : ℕ) (pixels : List ℕ) (m : ℕ) (whole : 4 * (h * w) ≤ m) w
   values-front : valuesOf h w (take m pixels) ≡ valuesOf h w pixels
   unfolding valuesOf
   values-front =
-      ap (λ (answer : ℕ). printed h w answer (packed (shown ofByte h w (take m pixels)))) answer-front
+      ap (λ (answer : ℕ). printed h w answer (packed (shown mostByte h w (take m pixels)))) answer-front
       ∙ ap (printed h w (loadAnswer h w (length pixels) (3 * (h * w)))) planes-front
 
 -- the first two lines have at most 23 bytes

@@ -6,8 +6,8 @@ use lib.Dec.{eqb}
 use lib.ListN.{length, drop}
 use Rattle.board.specs.Board.{fresh}
 use Rattle.board.specs.Screen.{packed}
-use Rattle.load.specs.Load.{ofByte, shown, loadAnswer}
-use Rattle.locate.specs.Locate.{found}
+use Rattle.load.specs.Load.{mostByte, shown, loadAnswer}
+use Rattle.locate.specs.Locate.{foundIn}
 use Rattle.header.specs.declared.Input.{Input}
 use Rattle.header.specs.declared.Input.the-variants.{Sides, Refused}
 use Rattle.header.specs.Header.{sidesLine, mostShown, headerOf}
@@ -15,10 +15,10 @@ use Rattle.reply.specs.Values.{located, alone}
 
 -- of a screen with these sides and pixels: it is loaded, into planes of its size, and located; where loading refused, its answer alone
 unfoldable pub valuesOf : ℕ → ℕ → List ℕ → List ℕ
-unfolding loadAnswer found
+unfolding loadAnswer
 valuesOf h w pixels =
     let answer = loadAnswer h w (length pixels) (3 * (h * w)) in
-    cond (eqb answer 0) (located (found (fresh h w) (packed (shown ofByte h w pixels)))) (alone answer)
+    cond (eqb answer 0) (located (foundIn (fresh h w) (packed (shown mostByte h w pixels)))) (alone answer)
 
 -- where the first two lines say this: the pixels stand behind them, and a refusal is printed alone
 unfoldable pub valuesFor : List ℕ → Input → List ℕ

@@ -7,7 +7,7 @@ ghost use lib.ListN.{length, take};
 ghost use Rattle.lists.specs.Front.{AtFront};
 ghost use Rattle.board.specs.Board.{leastSide};
 ghost use Rattle.board.specs.Planes.{FitPlanes};
-ghost use Rattle.locate.specs.Locate.{found};
+ghost use Rattle.locate.specs.Locate.{foundIn};
 ghost use Rattle.header.specs.Header.{mostShown};
 ghost use Rattle.reply.specs.Values as Spec;
 ghost use Rattle.reply.specs.Values.{textOf};
@@ -49,7 +49,7 @@ fn alone(answer: u32) -> [u64; 14]
 // Locates a screen of at most 64 by 64 whose planes are fit.
 fn locate_shown(b: Board, planes: &mut [f32]) -> Located
     requires { ⌜ FitPlanes leastSide (b .height) (b .width) (now planes) × (b .height ≤ mostShown) × (b .width ≤ mostShown) ⌝ }
-    ensures { λ r. ⌜ r ≡ found b (now (planes .entry)) ⌝ }
+    ensures { λ r. ⌜ r ≡ foundIn b (now (planes .entry)) ⌝ }
 {
     let mut edges: [u8; 4096] = [0; 4096];
     let mut scores: [u32; 128] = [0; 128];
