@@ -104,12 +104,12 @@ place-lane c₁ c₂ = on-framed c₁ c₂ (middles c₁ c₂)
 -- no score is above the number of steps
 pub scores-most : (E : ℕ → ℕ → Bool) (from to c₁ c₂ i : ℕ) → getD (scores E from to c₁ c₂) i 0 ≤ to - from
 unfolding scores score
-scores-most E from to c₁ c₂ i = most (places c₁ c₂) i
+scores-most E from to c₁ c₂ i = not-more (places c₁ c₂) i
   where
-    most : (l : List Place) (i : ℕ) → getD (map (score E from to) l) i 0 ≤ to - from
-    most [] i = omega arith
-    most (p ∷ l) zero = omega arith
-    most (p ∷ l) (suc i) = most l i
+    not-more : (l : List Place) (i : ℕ) → getD (map (score E from to) l) i 0 ≤ to - from
+    not-more [] i = omega arith
+    not-more (p ∷ l) zero = omega arith
+    not-more (p ∷ l) (suc i) = not-more l i
 
 map-append : {A B : Type 0} (f : A → B) (l m : List A) → map f (l ++ m) ≡ map f l ++ map f m
 map-append f [] m = refl
@@ -156,7 +156,7 @@ module _ (E : ℕ → ℕ → Bool) (from to c₁ c₂ : ℕ) where
       u ≡ bordered E from to c₁ c₂ (putMid 2 (n - 2 - 2) d m) → AtFront (scores E from to c₁ c₂) d u
   joined n d m u count l em eu =
       let ys : List ℕ = sweptScores E from to c₁ (n - 4) in
-      let least : 4 ≤ n = rw count (count-least c₁ c₂) in
+      let enough : 4 ≤ n = rw count (count-least c₁ c₂) in
       let len : length ys ≡ n - 4 = length-tabFrom 0 (n - 4) _ in
       let mid : length (midOf 2 (n - 2 - 2) d) ≡ n - 4 = mid-len 2 (n - 2) d (omega arith) ∙ omega arith in
       let is : m ≡ ys = rw mid at em in

@@ -25,8 +25,8 @@ at-count c = c .before .before .before .before
 counted : (c : tie.After-place-count) → let a = at-start (at-first c) .args in c .place-count .result ≡ placeCount (a .c-1) (a .c-2)
 counted c = c .place-count .ensures
 
-least : (c : tie.After-place-count) → 4 ≤ c .place-count .result
-least c = rw (counted c) (count-least _ _)
+enough : (c : tie.After-place-count) → 4 ≤ c .place-count .result
+enough c = rw (counted c) (count-least _ _)
 
 fits : (c : tie.After-place-count) → c .place-count .result ≤ length (now (at-start (at-first c) .args .out))
 fits c = omega (arith, counted c, at-start (at-first c) .pre .6)
@@ -41,7 +41,7 @@ place-count-requires : tie.Need-place-count-requires
 place-count-requires c κs = search needs
 
 sub-last : tie.Need-sub-last
-sub-last c = omega (arith, least c)
+sub-last c = omega (arith, enough c)
 
 sub-two-scores : tie.Need-sub-two-scores
 sub-two-scores c = search needs
@@ -50,7 +50,7 @@ two-scores-requires-2 : tie.Need-two-scores-requires-2
 two-scores-requires-2 c κs =
     let n = c .before in
     let p = at-start (at-first n) .pre in
-    (p .0, p .1, strip-in _ _ _ _ _ (omega arith) (p .2), p .3, omega arith, omega (arith, least n, fits n))
+    (p .0, p .1, strip-in _ _ _ _ _ (omega arith) (p .2), p .3, omega arith, omega (arith, enough n, fits n))
 
 same-length : tie.Need-same-length
 same-length c = search needs

@@ -24,11 +24,11 @@ at-swept c = c .before .before .before .before .before .before
 counted : (c : tie.After-place-count) → let b = at-start c .args .b in c .place-count .result ≡ placeCount (b .«c_1») (b .«c_2»)
 counted c = c .place-count .ensures
 
-least : (c : tie.After-place-count) → 4 ≤ c .place-count .result
-least c = rw (counted c) (count-least _ _)
+enough : (c : tie.After-place-count) → 4 ≤ c .place-count .result
+enough c = rw (counted c) (count-least _ _)
 
-most : (c : tie.After-place-count) → let b = at-start c .args .b in c .place-count .result ≤ b .«c_2» - b .«c_1» + 1
-most c = let b = at-start c .args .b in omega (arith, counted c, count-most (b .«c_1») (b .«c_2») (at-start c .pre .0 .columns))
+not-more : (c : tie.After-place-count) → let b = at-start c .args .b in c .place-count .result ≤ b .«c_2» - b .«c_1» + 1
+not-more c = let b = at-start c .args .b in omega (arith, counted c, count-most (b .«c_1») (b .«c_2») (at-start c .pre .0 .columns))
 
 fits : (c : tie.After-place-count) → c .place-count .result ≤ length (now (at-start c .args .out))
 fits c = omega (arith, counted c, at-start c .pre .1)
@@ -37,19 +37,19 @@ place-count-requires : tie.Need-place-count-requires
 place-count-requires c κs = search needs
 
 sub-last : tie.Need-sub-last
-sub-last c = omega (arith, least c)
+sub-last c = omega (arith, enough c)
 
 sub-sweep-scores : tie.Need-sub-sweep-scores
-sub-sweep-scores c = search (needs, least c)
+sub-sweep-scores c = search (needs, enough c)
 
 part-sweep-scores-start : tie.Need-part-sweep-scores-start
-part-sweep-scores-start c = search (needs, least c)
+part-sweep-scores-start c = search (needs, enough c)
 
 part-sweep-scores-end : tie.Need-part-sweep-scores-end
 part-sweep-scores-end c = search (needs, fits c)
 
 sweep-scores-requires : tie.Need-sweep-scores-requires
-sweep-scores-requires c κs = search (needs, least (c .before), most (c .before), fits (c .before))
+sweep-scores-requires c κs = search (needs, enough (c .before), not-more (c .before), fits (c .before))
 
 border-scores-requires : tie.Need-border-scores-requires
 border-scores-requires c κs = search needs

@@ -30,11 +30,11 @@ at-end c = c .before .before
 counted : (c : tie.After-place-count) → let b = at-start c .args .b in c .place-count .result ≡ placeCount (b .«r_1») (b .«r_2»)
 counted c = c .place-count .ensures
 
-least : (c : tie.After-place-count) → 4 ≤ c .place-count .result
-least c = rw (counted c) (count-least _ _)
+enough : (c : tie.After-place-count) → 4 ≤ c .place-count .result
+enough c = rw (counted c) (count-least _ _)
 
-most : (c : tie.After-place-count) → let b = at-start c .args .b in c .place-count .result ≤ b .«r_2» - b .«r_1» + 1
-most c = let b = at-start c .args .b in omega (arith, counted c, count-most (b .«r_1») (b .«r_2») (at-start c .pre .0 .rows))
+not-more : (c : tie.After-place-count) → let b = at-start c .args .b in c .place-count .result ≤ b .«r_2» - b .«r_1» + 1
+not-more c = let b = at-start c .args .b in omega (arith, counted c, count-most (b .«r_1») (b .«r_2») (at-start c .pre .0 .rows))
 
 fits : (c : tie.After-place-count) → c .place-count .result ≤ length (now (at-start c .args .out))
 fits c = omega (arith, counted c, at-start c .pre .2)
@@ -45,19 +45,19 @@ part : (c : tie.After-place-count) →
 part c =
     let n = c .place-count .result in
     let e = mid-len 2 (n - 2) (now (at-start c .args .out)) (omega (arith, fits c)) in
-    omega (arith, e, least c)
+    omega (arith, e, enough c)
 
 place-count-requires : tie.Need-place-count-requires
 place-count-requires c κs = search needs
 
 sub-last : tie.Need-sub-last
-sub-last c = omega (arith, least c)
+sub-last c = omega (arith, enough c)
 
 sub-banded-scores : tie.Need-sub-banded-scores
-sub-banded-scores c = search (needs, least (c .before))
+sub-banded-scores c = search (needs, enough (c .before))
 
 part-banded-scores-start : tie.Need-part-banded-scores-start
-part-banded-scores-start c = search (needs, least (c .before))
+part-banded-scores-start c = search (needs, enough (c .before))
 
 part-banded-scores-end : tie.Need-part-banded-scores-end
 part-banded-scores-end c = search (needs, fits (c .before))
@@ -70,7 +70,7 @@ banded-scores-requires c κs =
       omega arith,
       omega arith,
       omega arith,
-      strips-in _ _ _ _ _ _ (omega (arith, e, most n)) (p .0 .inside) (p .0 .whole),
+      strips-in _ _ _ _ _ _ (omega (arith, e, not-more n)) (p .0 .inside) (p .0 .whole),
       rw (e, counted n) (p .1),
       p .0 .marks,
     )
