@@ -1,5 +1,5 @@
--- What loading leaves of a screen of the program, in planes of its size: fit planes and a fresh record, or a refusal. That a byte over 255.0 is a unit
--- is worked out for each of the 256 bytes. Nothing else here speaks of loading's contract. Assumes nothing.
+-- What loading leaves of a screen of the program, in planes of its size: fit planes and a fresh record, or a refusal. That a byte over
+-- 255.0 is a unit is worked out for each of the 256 bytes. Assumes nothing.
 use Prim.Native.Nat.{ℕ, zero, suc, _+_, _-_, _*_, _/_, _%_, _<_, _≤_}
 use mathlib.Core.Path.{_≡_, refl, sym, ap, _∙_}
 use mathlib.Core.Bool.{Bool, true, false, _&&_}
@@ -71,7 +71,8 @@ module _ {h w : ℕ} {pixels : List ℕ} {r : Loaded} {before after : List Float
     unfolding loadAnswer
     planes-fit byte =
         let n = planes-length h w pixels in
-        let all : take (3 * (h * w)) (planesOf h w pixels) ≡ planesOf h w pixels = take-all (3 * (h * w)) (planesOf h w pixels) (omega (arith, n)) in
+        let all : take (3 * (h * w)) (planesOf h w pixels) ≡ planesOf h w pixels =
+        take-all (3 * (h * w)) (planesOf h w pixels) (omega (arith, n)) in
         record {
           sides = sides-in leastSide h w (passed (sidesOutside leastSide h w) 0 _ (sym answer-is ∙ accepted) .0);
           there = omega (arith, n);

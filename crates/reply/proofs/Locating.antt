@@ -1,5 +1,5 @@
--- Locating a screen of the program: its checks pass on planes that are fit, in slices for sides up to 64. Nothing else here speaks of its contract.
--- Assumes nothing.
+-- Locating a screen of the program: its checks pass on planes that are fit, in slices for sides up to 64. Nothing else here speaks of its
+-- contract. Assumes nothing.
 use Prim.Native.Nat.{ℕ, _+_, _*_, _≤_}
 use mathlib.Core.Path.{_≡_, _∙_}
 use mathlib.Core.List.{List}
@@ -33,7 +33,8 @@ module _ (h w : ℕ) (a : h ≤ 64) (b : w ≤ 64) where
       )
 
 pub locates : {b : Board} {planes planes' : List Float} {edges scores edges' scores' : List ℕ} {floats bytes words : ℕ} {r : Located}
-    → LocateGives (fitAnswer (b .height) (b .width) planes (length edges) (length scores) floats bytes words) b planes edges scores r planes' edges' scores'
+    → LocateGives (fitAnswer (b .height) (b .width) planes (length edges) (length scores) floats bytes words)
+    b planes edges scores r planes' edges' scores'
     → FitPlanes leastSide (b .height) (b .width) planes → b .height ≤ 64 → b .width ≤ 64
     → length edges ≡ 4096 → length scores ≡ 128 → floats ≡ 4096 → bytes ≡ 4096 → words ≡ 512
     → r ≡ found b planes

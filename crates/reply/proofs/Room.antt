@@ -1,5 +1,6 @@
 -- `room` bytes are enough: what is printed for an input is what is printed for its first `room` bytes. Loading looks at the numbers of the
--- pixels alone and at whether there are so many, and the first two lines are found in the front of the input (header's Cut). Assumes nothing.
+-- pixels alone and at whether there are so many, and the first two lines are found in the front of the input (header's Cut). Assumes
+-- nothing.
 use Prim.Native.Nat.{ℕ, _+_, _-_, _*_, _/_, _%_, _≤_, _<_}
 use mathlib.Core.Path.{_≡_, refl, ap, _∙_}
 use mathlib.Core.Bool.{Bool, true, false, cond}
@@ -38,7 +39,8 @@ abbrev printed : ℕ → ℕ → ℕ → List Float → List ℕ
 printed h w answer planes = cond (eqb answer 0) (located (found (fresh h w) planes)) (alone answer)
 
 module _ (h w : ℕ) (pixels : List ℕ) (m : ℕ) (whole : 4 * (h * w) ≤ m) where
-  level-front : (k n : ℕ) → n < h * w → shown ofByte h w (take m pixels) .px k (n / w) (n % w) ≡ shown ofByte h w pixels .px k (n / w) (n % w)
+  level-front : (k n : ℕ) → n < h * w
+      → shown ofByte h w (take m pixels) .px k (n / w) (n % w) ≡ shown ofByte h w pixels .px k (n / w) (n % w)
   level-front k n l = ap (level ofByte) (getD-take m pixels (4 * (n / w * w + n % w) + (2 - k)) 0 (omega (arith, div-add-mod' n w)))
 
   planes-front : packed (shown ofByte h w (take m pixels)) ≡ packed (shown ofByte h w pixels)

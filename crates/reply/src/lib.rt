@@ -1,5 +1,6 @@
-// What the screen program prints for the bytes that it read (01, "Screen program"): the screen is loaded and located, and its values are written in
-// two lines. It answers 11, 1, 2 and locating's. Definitions: specs/Values (the values and the two lines), specs/Answer (which values).
+// What the screen program prints for the bytes that it read (01, "Screen program"): the screen is loaded and located, and its values are
+// written in two lines. It answers 11, 1, 2 and locating's. Definitions: specs/Values (the values and the two lines), specs/Answer (which
+// values for which bytes).
 ghost use mathlib.Core.Path.{_≡_};
 ghost use mathlib.Core.List.{List};
 ghost use Prim.Native.Nat.{ℕ, _≤_};
