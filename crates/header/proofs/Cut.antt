@@ -42,7 +42,8 @@ count-front zero l = inr (omega arith, omega arith)
 count-front (suc m) [] = inl (refl, omega arith)
 count-front (suc m) (b ∷ l) = go (isDigit b) (count-front m l)
   where
-    go : (t : Bool) → Agree m (digitCount (take m l)) (digitCount l) → Agree (suc m) (cond t (suc (digitCount (take m l))) 0) (cond t (suc (digitCount l)) 0)
+    go : (t : Bool) → Agree m (digitCount (take m l)) (digitCount l)
+        → Agree (suc m) (cond t (suc (digitCount (take m l))) 0) (cond t (suc (digitCount l)) 0)
     go true h = agree-more m (digitCount (take m l)) (digitCount l) h
     go false h = inl (refl, omega arith)
 
@@ -50,7 +51,8 @@ ends-front : (bytes : List ℕ) (m from : ℕ) → from ≤ m → Agree m (digit
 unfolding digitsEnd
 ends-front bytes m from h =
     rw (drop-take from m bytes)
-    (⊎-elim (λ q. inl (ap (λ (n : ℕ). from + n) (q .0), omega arith)) (λ q. inr (omega arith, omega arith)) (count-front (m - from) (drop from bytes)))
+    (⊎-elim (λ q. inl (ap (λ (n : ℕ). from + n) (q .0), omega arith)) (λ q. inr (omega arith, omega arith))
+    (count-front (m - from) (drop from bytes)))
 
 -- more than four
 four-long : (bytes : List ℕ) (from end mark : ℕ) → from + 4 < end → fourAtMost bytes from end mark ≡ false
@@ -82,13 +84,15 @@ module _ (bytes : List ℕ) (m from : ℕ) (h : from + 10 ≤ m) where
       good-cut = four-front bytes m from space 32 inside ∙ good
 
       -- the second does
-      second-long : m ≤ digitsEnd (take m bytes) (space + 1) → m ≤ digitsEnd bytes (space + 1) → numbersAt (take m bytes) from ≡ numbersAt bytes from
+      second-long : m ≤ digitsEnd (take m bytes) (space + 1) → m ≤ digitsEnd bytes (space + 1)
+          → numbersAt (take m bytes) from ≡ numbersAt bytes from
       second-long a b =
           let f = four-facts bytes from space 32 good in
           sym (second-bad (take m bytes) from space cut good-cut _ refl (four-long _ (space + 1) _ 10 (omega arith)))
           ∙ second-bad bytes from space here good _ refl (four-long bytes (space + 1) _ 10 (omega arith))
 
-      module _ (feed : ℕ) (here' : feed ≡ digitsEnd bytes (space + 1)) (cut' : feed ≡ digitsEnd (take m bytes) (space + 1)) (inside' : feed < m) where
+      module _ (feed : ℕ) (here' : feed ≡ digitsEnd bytes (space + 1)) (cut' : feed ≡ digitsEnd (take m bytes) (space + 1))
+          (inside' : feed < m) where
         second-read : (t : Bool) → fourAtMost bytes (space + 1) feed 10 ≡ t → numbersAt (take m bytes) from ≡ numbersAt bytes from
         second-read false e =
             sym (second-bad (take m bytes) from space cut good-cut feed cut' (four-front bytes m (space + 1) feed 10 inside' ∙ e))
@@ -97,13 +101,17 @@ module _ (bytes : List ℕ) (m from : ℕ) (h : from + 10 ≤ m) where
             let f = four-facts bytes from space 32 good in
             let g = four-facts bytes (space + 1) feed 10 e in
             sym (both-good (take m bytes) from space cut good-cut feed cut' (four-front bytes m (space + 1) feed 10 inside' ∙ e))
-            ∙ rw (value-front bytes m from (space - from) 0 (omega arith), value-front bytes m (space + 1) (feed - (space + 1)) 0 (omega arith))
+            ∙ rw (
+              value-front bytes m from (space - from) 0 (omega arith),
+              value-front bytes m (space + 1) (feed - (space + 1)) 0 (omega arith),
+            )
             (both-good bytes from space here good feed here' e)
 
       second : numbersAt (take m bytes) from ≡ numbersAt bytes from
       second =
           let f = four-facts bytes from space 32 good in
-          ⊎-elim (λ q. second-read _ refl (sym (q .0)) (q .1) _ refl) (λ q. second-long (q .0) (q .1)) (ends-front bytes m (space + 1) (omega arith))
+          ⊎-elim (λ q. second-read _ refl (sym (q .0)) (q .1) _ refl) (λ q. second-long (q .0) (q .1))
+          (ends-front bytes m (space + 1) (omega arith))
 
     first-read : (t : Bool) → fourAtMost bytes from space 32 ≡ t → numbersAt (take m bytes) from ≡ numbersAt bytes from
     first-read false e = first-wrong e

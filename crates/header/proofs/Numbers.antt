@@ -1,21 +1,22 @@
 -- Numbers in decimal: where their digits end, and what they are worth.
 use Prim.Native.Nat.{ℕ, zero, suc, _+_, _-_, _*_, _<_, _≤_}
-use mathlib.Core.Path.{_≡_, refl}
-use mathlib.Core.Bool.{Bool, true, false, _&&_}
+use mathlib.Core.Path.{_≡_}
+use mathlib.Core.Bool.{true, false}
 use mathlib.Core.List.{List}
-use native.Mathlib.Nat.{not-suc-le-zero, le-of-suc-le-suc}
 use native.Mathlib.Numerals.{add-one}
 use native.Mathlib.Omega.{arith}
 use lib.ListN.{length, getD, drop, drop-of-length-le}
 use lib.Seq.{drop-cons}
 use borrow.Author.Tests.{ltb-true, leb-true}
 use lib.Dec.{leb, ltb}
+use Rattle.board.proofs.Sides.{both}
 use Rattle.header.specs.declared.Input.the-variants.{Refused}
 use Rattle.header.specs.Header.{isDigit, digitCount, digitsEnd, fourAtMost, valueAt, sized, numbersAt}
 
 module _ (bytes : List ℕ) (k : ℕ) where
   -- a digit more
-  pub digit-more : k < length bytes → isDigit (getD bytes k 0) ≡ true → (k + 1) + digitCount (drop (k + 1) bytes) ≡ k + digitCount (drop k bytes)
+  pub digit-more : k < length bytes → isDigit (getD bytes k 0) ≡ true
+      → (k + 1) + digitCount (drop (k + 1) bytes) ≡ k + digitCount (drop k bytes)
   digit-more l e = rw (add-one, drop-cons bytes k 0 l, e) (omega arith)
 
   -- no digit
@@ -43,21 +44,17 @@ worth-small (suc zero) h = omega arith
 worth-small (suc (suc zero)) h = omega arith
 worth-small (suc (suc (suc zero))) h = omega arith
 worth-small (suc (suc (suc (suc zero)))) h = omega arith
-worth-small (suc (suc (suc (suc (suc n))))) h = absurd (not-suc-le-zero (le-of-suc-le-suc (le-of-suc-le-suc (le-of-suc-le-suc (le-of-suc-le-suc h)))))
+worth-small (suc (suc (suc (suc (suc n))))) h = absurd (omega arith)
 
 -- one digit taken
-pub value-more : (bytes : List ℕ) (k end v d : ℕ) → k < end → d ≡ getD bytes k 0 - 48 → valueAt bytes (k + 1) (end - (k + 1)) (10 * v + d) ≡ valueAt bytes k (end - k) v
+pub value-more : (bytes : List ℕ) (k end v d : ℕ) → k < end → d ≡ getD bytes k 0 - 48
+    → valueAt bytes (k + 1) (end - (k + 1)) (10 * v + d) ≡ valueAt bytes k (end - k) v
 value-more bytes k end v d l e =
     let n : end - k ≡ suc (end - (k + 1)) = omega arith in
     rw (n, add-one, e)
 
 pub value-all : (bytes : List ℕ) (k end v : ℕ) → end ≤ k → valueAt bytes k (end - k) v ≡ v
 value-all bytes k end v l = let n : end - k ≡ 0 = omega arith in rw n
-
-both : (a b : Bool) → a && b ≡ true → (a ≡ true) × (b ≡ true)
-both true b e = (refl, e)
-both false true e = (e, refl)
-both false false e = (e, e)
 
 -- where a number has one to four digits
 pub four-facts : (bytes : List ℕ) (from end mark : ℕ) → fourAtMost bytes from end mark ≡ true → (from < end) × (end ≤ from + 4)
@@ -78,6 +75,7 @@ module _ (bytes : List ℕ) (from space : ℕ) (s : space ≡ digitsEnd bytes fr
     unfolding numbersAt
     second-bad e = rw (← s, good, ← f, e)
 
-    pub both-good : fourAtMost bytes (space + 1) feed 10 ≡ true → sized (valueAt bytes from (space - from) 0) (valueAt bytes (space + 1) (feed - (space + 1)) 0) (feed + 1) ≡ numbersAt bytes from
+    pub both-good : fourAtMost bytes (space + 1) feed 10 ≡ true
+        → sized (valueAt bytes from (space - from) 0) (valueAt bytes (space + 1) (feed - (space + 1)) 0) (feed + 1) ≡ numbersAt bytes from
     unfolding numbersAt
     both-good e = rw (← s, good, ← f, e)

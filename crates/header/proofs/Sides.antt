@@ -41,7 +41,7 @@ numbers-shown bytes from =
     let w = valueAt bytes (space + 1) (feed - (space + 1)) 0 in
     either (from + 10) (fourAtMost bytes from space 32) _ (Refused 11)
     (λ e. either (from + 10) (fourAtMost bytes (space + 1) feed 10) (sized h w (feed + 1)) (Refused 11)
-    (λ g. sized-shown (from + 10) h w (feed + 1) (omega (arith, four-facts bytes from space 32 e .1, four-facts bytes (space + 1) feed 10 g .1)))
+    (λ g. let f = four-facts bytes from space 32 e .1 in sized-shown (from + 10) h w (feed + 1) (omega (arith, four-facts bytes (space + 1) feed 10 g .1)))
     tt)
     tt
 

@@ -1,5 +1,5 @@
-// The first two lines of the screen program's input (01, "Screen program"): the sides, and where the pixels begin. It refuses with 11 and 1.
-// Definitions: specs/Header. Laws for callers:
+// The first two lines of the screen program's input (01, "Screen program"): the sides, and where the pixels begin. It refuses with
+// 11 and 1. Definitions: specs/Header. Laws for callers:
 // proofs/Sides: what sides and places the two lines give.
 // proofs/Cut: the two lines are found in the front of the input.
 ghost use mathlib.Core.Path.{_≡_};

@@ -1,5 +1,5 @@
--- What is printed of a screen that was loaded into planes of its size, which are lent from a longer array: a refusal of load's alone, or what locating
--- finds in the planes. Assumes nothing.
+-- What is printed of a screen that was loaded into planes of its size, which are lent from a longer array: a refusal of load's alone, or
+-- what locating finds in the planes. Assumes nothing.
 use Prim.Native.Nat.{ℕ, _*_, _≤_, _<_}
 use mathlib.Core.Path.{_≡_, sym, ap, _∙_}
 use mathlib.Core.Bool.{cond}
@@ -53,7 +53,9 @@ module _ {h w : ℕ} {pixels : List ℕ} {r : Loaded} {before after : List Float
     lent-length = sym (ap length lent-is ∙ planes-length h w pixels)
 
     pub lent-fit : ((k : ℕ) → getD pixels k 0 < 256) → h ≤ 64 → w ≤ 64
-        → FitPlanes leastSide (r .board .height) (r .board .width) (take (3 * (h * w)) (after ++ rest)) × (r .board .height ≤ 64) × (r .board .width ≤ 64)
+        → FitPlanes leastSide (r .board .height) (r .board .width) (take (3 * (h * w)) (after ++ rest))
+        × (r .board .height ≤ 64)
+        × (r .board .width ≤ 64)
     lent-fit byte a b = rw (board-is loads sized accepted, lent-is) (planes-fit loads sized accepted byte, a, b)
 
     values-are : valuesOf h w pixels ≡ located (foundIn (fresh h w) (planesOf h w pixels))

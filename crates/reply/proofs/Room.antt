@@ -1,5 +1,6 @@
 -- `room` bytes are enough: what is printed for an input is what is printed for its first `room` bytes. Loading looks at the numbers of the
--- pixels alone and at whether there are so many, and the first two lines are found in the front of the input (header's Cut). Assumes nothing.
+-- pixels alone and at whether there are so many, and the first two lines are found in the front of the input (header's Cut). Assumes
+-- nothing.
 use Prim.Native.Nat.{ℕ, _+_, _-_, _*_, _/_, _%_, _≤_, _<_}
 use mathlib.Core.Path.{_≡_, refl, ap, _∙_}
 use mathlib.Core.Bool.{Bool, true, false, cond}
@@ -15,7 +16,7 @@ use Rattle.lists.proofs.Fill.{tab-same}
 use Rattle.board.specs.Board.{fresh}
 use Rattle.board.specs.Screen.{packed}
 use Rattle.load.specs.Load.{mostByte, level, shown, loadAnswer}
-use Rattle.locate.specs.Locate.{found}
+use Rattle.locate.specs.Locate.{foundIn}
 use Rattle.header.specs.declared.Input.{Input}
 use Rattle.header.specs.declared.Input.the-variants.{Sides, Refused}
 use Rattle.header.specs.Header.{headerOf}
@@ -35,10 +36,11 @@ test-front pixels m n h = go (ltb (length pixels) n) refl
 
 -- what is printed where loading answers this and leaves these planes
 abbrev printed : ℕ → ℕ → ℕ → List Float → List ℕ
-printed h w answer planes = cond (eqb answer 0) (located (found (fresh h w) planes)) (alone answer)
+printed h w answer planes = cond (eqb answer 0) (located (foundIn (fresh h w) planes)) (alone answer)
 
 module _ (h w : ℕ) (pixels : List ℕ) (m : ℕ) (whole : 4 * (h * w) ≤ m) where
-  level-front : (k n : ℕ) → n < h * w → shown mostByte h w (take m pixels) .px k (n / w) (n % w) ≡ shown mostByte h w pixels .px k (n / w) (n % w)
+  level-front : (k n : ℕ) → n < h * w
+      → shown mostByte h w (take m pixels) .px k (n / w) (n % w) ≡ shown mostByte h w pixels .px k (n / w) (n % w)
   level-front k n l = ap (level mostByte) (getD-take m pixels (4 * (n / w * w + n % w) + (2 - k)) 0 (omega (arith, div-add-mod' n w)))
 
   planes-front : packed (shown mostByte h w (take m pixels)) ≡ packed (shown mostByte h w pixels)

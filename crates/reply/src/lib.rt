@@ -1,5 +1,6 @@
-// What the screen program prints for the bytes that it read (01, "Screen program"): the screen is loaded and located, and its values are written in
-// two lines. It answers 11, 1, 2 and locating's. Definitions: specs/Values (the values and the two lines), specs/Answer (which values).
+// What the screen program prints for the bytes that it read (01, "Screen program"): the screen is loaded and located, and its values are
+// written in two lines. It answers 11, 1, 2 and locating's. Definitions: specs/Values (the values and the two lines), specs/Answer (which
+// values for which bytes).
 ghost use mathlib.Core.Path.{_≡_};
 ghost use mathlib.Core.List.{List};
 ghost use Prim.Native.Nat.{ℕ, _≤_};
@@ -94,7 +95,8 @@ fn answer_to(bytes: &[u8]) -> [u64; 14]
 // Writes the two lines to the front of `out`, and answers how many bytes they are.
 fn write_lines(values: &[u64], out: &mut [u8]) -> usize
     requires { ⌜ length (textOf (now values)) ≤ length (now out) ⌝ }
-    ensures { λ r. ⌜ (r ≡ length (textOf (now (values .entry)))) × AtFront (textOf (now (values .entry))) (now (out .entry)) (now (out .exit)) ⌝ }
+    ensures { λ r. ⌜ r ≡ length (textOf (now (values .entry))) ⌝ }
+    ensures { λ _. ⌜ AtFront (textOf (now (values .entry))) (now (out .entry)) (now (out .exit)) ⌝ }
 {
     let names =
         b"answer rows columns r1 c1 r0 c0 quarterr quarterc votesr votesc narrowed height width\n";
@@ -106,7 +108,8 @@ fn write_lines(values: &[u64], out: &mut [u8]) -> usize
 // of any input whose first `room` bytes, or all where it has fewer, are the n that were read.
 pub fn reply(bytes: &[u8], n: usize, out: &mut [u8]) -> usize
     requires { ⌜ (length (now bytes) ≡ room) × (n ≤ room) × (380 ≤ length (now out)) ⌝ }
-    ensures { λ r. ⌜ ((input : List ℕ) → take room input ≡ take n (now (bytes .entry)) → (r ≡ length (textOf (answerTo input))) × AtFront (textOf (answerTo input)) (now (out .entry)) (now (out .exit))) ⌝ }
+    ensures { λ r. ⌜ ((input : List ℕ) → take room input ≡ take n (now (bytes .entry)) →
+        (r ≡ length (textOf (answerTo input))) × AtFront (textOf (answerTo input)) (now (out .entry)) (now (out .exit))) ⌝ }
     ensures { λ r. ⌜ r ≤ length (now (out .exit)) ⌝ }
 {
     let values = answer_to(&bytes[..n]);

@@ -65,7 +65,8 @@ following-most (n ∷ ns) = omega (arith, length-append (32 ∷ decimal n) (foll
 pub line-most : (ns : List ℕ) → 0 < length ns → length (numbersLine ns) ≤ 21 * length ns
 line-most [] l = absurd (not-suc-le-zero l)
 line-most (n ∷ ns) l =
-    omega (arith, length-append (decimal n ++ following ns) (10 ∷ []), length-append (decimal n) (following ns), decimal-most n, following-most ns)
+    let all = length-append (decimal n ++ following ns) (10 ∷ []) in
+    omega (arith, all, length-append (decimal n) (following ns), decimal-most n, following-most ns)
 
 -- the first number, then those that follow
 pub line-first : (ns : List ℕ) → 0 < length ns → numbersLine ns ≡ decimal (getD ns 0 0) ++ (following (drop 1 ns) ++ (10 ∷ []))

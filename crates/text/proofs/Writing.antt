@@ -21,7 +21,10 @@ puts-byte b at before l =
 pub puts-join : {a b before mid after : List ℕ} {at m next : ℕ} → Puts a at before m mid → Puts b m mid next after → m ≤ length before
     → Puts (a ++ b) at before next after
 puts-join {a} {b} x y h =
-    record { next-is = simp length-append (omega (arith, x .next-is, y .next-is)); placed = placed-join (x .placed) (y .placed) (x .next-is) h }
+    record {
+      next-is = simp length-append (omega (arith, x .next-is, y .next-is));
+      placed = placed-join (x .placed) (y .placed) (x .next-is) h;
+    }
 
 -- the whole text has room, and of it all is written but the rest
 pub record Partly (whole rest : List ℕ) (at : ℕ) (before : List ℕ) (next : ℕ) (after : List ℕ) : Type 0 where
@@ -44,8 +47,8 @@ module _ {whole : List ℕ} {at : ℕ} {before : List ℕ} where
   partly-room part rest p = omega (arith, left p, length-append part rest, p .puts .placed .len, p .room)
 
   -- a part more
-  pub partly-more : (part : List ℕ) {rest mid after : List ℕ} {m next : ℕ} → Partly whole (part ++ rest) at before m mid → Puts part m mid next after
-      → Partly whole rest at before next after
+  pub partly-more : (part : List ℕ) {rest mid after : List ℕ} {m next : ℕ} → Partly whole (part ++ rest) at before m mid
+      → Puts part m mid next after → Partly whole rest at before next after
   partly-more part {rest} p x =
       record {
         written = p .written ++ part;

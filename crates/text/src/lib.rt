@@ -1,6 +1,6 @@
-// Text in bytes, written into a lent slice from a place on: a byte, bytes, a line feed, a number in decimal, a line of numbers. Each call hands back
-// the place behind what it wrote, and asks for no more room than that takes. Definitions: specs/Text. Laws for callers:
-// proofs/Decimal: how many digits a number has.
+// Text in bytes, written into a lent slice from a place on: a byte, bytes, a line feed, a number in decimal, a line of numbers. Each call
+// hands back the place behind what it wrote, and asks for no more room than that takes. Definitions: specs/Text. Laws for callers:
+// proofs/Decimal: how many digits a number has, and how long a line of numbers is.
 // proofs/Writing: texts one after another.
 ghost use mathlib.Core.Path.{_≡_};
 ghost use mathlib.Core.List.{[], _∷_};

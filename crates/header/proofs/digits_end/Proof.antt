@@ -31,15 +31,22 @@ loop-less : tie.Need-loop-less Inv-loop μ-loop
 loop-less c = search needs
 
 loop-again : tie.Need-loop-again Inv-loop μ-loop
-loop-again c = digit-more _ _ (c .before .before .before .loop-test .taken) (sym (c .before .is-digit .ensures) ∙ c .if1 .taken) ∙ c .before .before .before .before .loop .inv
+loop-again c =
+    let at = c .before .before .before .before in
+    digit-more _ _ (c .before .before .before .loop-test .taken) (sym (c .before .is-digit .ensures) ∙ c .if1 .taken) ∙ at .loop .inv
 
 returns : tie.Need-returns Inv-loop μ-loop
 unfolding digitsEnd
-returns c = sym (digit-none (now (c .before .before .before .before .before .before .args .bytes)) (c .before .before .before .before .loop .end) (c .before .before .before .loop-test .taken) (sym (c .before .is-digit .ensures) ∙ c .if1 .left)) ∙ c .before .before .before .before .loop .inv
+returns c =
+    let at = c .before .before .before .before in
+    let none = sym (c .before .is-digit .ensures) ∙ c .if1 .left in
+    sym (digit-none (now (at .before .before .args .bytes)) (at .loop .end) (c .before .before .before .loop-test .taken) none) ∙ at .loop .inv
 
 returns-2 : tie.Need-returns-2 Inv-loop μ-loop
 unfolding digitsEnd
-returns-2 c = sym (digits-past (now (c .before .before .before .args .bytes)) (c .before .loop .end) (c .loop-test .left)) ∙ c .before .loop .inv
+returns-2 c =
+    let at = c .before in
+    sym (digits-past (now (at .before .before .args .bytes)) (at .loop .end) (c .loop-test .left)) ∙ at .loop .inv
 
 pub digits-end-spec : {M : Type 1} → statement M
 digits-end-spec =

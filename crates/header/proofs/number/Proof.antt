@@ -11,7 +11,11 @@ use Rattle.header.proofs.number.Statement.{statement}
 use Rattle.header.proofs.number.Tie as tie
 
 abbrev Inv-loop : tie.InvT-loop
-Inv-loop bytes from end value₀ k₀ value k = (from ≤ k) × (k ≤ end) × (value ≤ worth (k - from)) × (valueAt bytes k (end - k) value ≡ valueAt bytes from (end - from) 0)
+Inv-loop bytes from end value₀ k₀ value k =
+    (from ≤ k)
+    × (k ≤ end)
+    × (value ≤ worth (k - from))
+    × (valueAt bytes k (end - k) value ≡ valueAt bytes from (end - from) 0)
 
 abbrev μ-loop : tie.MeasureT-loop
 μ-loop bytes from end value₀ k₀ value k = end - k
@@ -20,7 +24,9 @@ loop-holds : tie.Need-loop-holds Inv-loop μ-loop
 loop-holds c = (omega arith, c .before .pre .0, zero-le, refl)
 
 mul-value : tie.Need-mul-value Inv-loop μ-loop
-mul-value c = omega (arith, worth-small (c .before .loop .k - c .before .before .before .args .from) (omega arith))
+mul-value c =
+    let at = c .before in
+    omega (arith, worth-small (at .loop .k - at .before .before .args .from) (omega arith))
 
 byte-at-requires : tie.Need-byte-at-requires Inv-loop μ-loop
 byte-at-requires c κs = search needs
@@ -29,7 +35,9 @@ digit-of-requires : tie.Need-digit-of-requires Inv-loop μ-loop
 digit-of-requires c κs = search needs
 
 add-value : tie.Need-add-value Inv-loop μ-loop
-add-value c = omega (arith, worth-small (c .before .before .before .loop .k - c .before .before .before .before .before .args .from) (omega arith))
+add-value c =
+    let at = c .before .before .before in
+    omega (arith, worth-small (at .loop .k - at .before .before .args .from) (omega arith))
 
 add-k : tie.Need-add-k Inv-loop μ-loop
 add-k c = search needs
@@ -38,10 +46,23 @@ loop-less : tie.Need-loop-less Inv-loop μ-loop
 loop-less c = search needs
 
 loop-again : tie.Need-loop-again Inv-loop μ-loop
-loop-again c = (omega arith, omega arith, worth-more (c .before .before .before .before .before .args .from) (c .before .before .before .loop .k) (c .before .before .before .loop .value) _ (c .before .before .before .loop .inv .0) (c .before .before .before .loop .inv .2) (c .digit-of .ensures .1), value-more (now (c .before .before .before .before .before .args .bytes)) (c .before .before .before .loop .k) (c .before .before .before .before .before .args .end) (c .before .before .before .loop .value) _ (c .before .before .loop-test .taken) (c .digit-of .ensures .0 ∙ ap (λ (d : ℕ). d - 48) (c .before .byte-at .ensures)) ∙ c .before .before .before .loop .inv .3)
+loop-again c =
+    let at = c .before .before .before in
+    let a = at .before .before .args in
+    let k = at .loop .k in
+    let v = at .loop .value in
+    let digit = c .digit-of .ensures .0 ∙ ap (λ (d : ℕ). d - 48) (c .before .byte-at .ensures) in (
+      omega arith,
+      omega arith,
+      worth-more (a .from) k v _ (at .loop .inv .0) (at .loop .inv .2) (c .digit-of .ensures .1),
+      value-more (now (a .bytes)) k (a .end) v _ (c .before .before .loop-test .taken) digit ∙ at .loop .inv .3,
+    )
 
 returns : tie.Need-returns Inv-loop μ-loop
-returns c = sym (value-all (now (c .before .before .before .args .bytes)) (c .before .loop .k) (c .before .before .before .args .end) (c .before .loop .value) (c .loop-test .left)) ∙ c .before .loop .inv .3
+returns c =
+    let at = c .before in
+    let a = at .before .before .args in
+    sym (value-all (now (a .bytes)) (at .loop .k) (a .end) (at .loop .value) (c .loop-test .left)) ∙ at .loop .inv .3
 
 pub number-spec : {M : Type 1} → statement M
 number-spec =

@@ -13,11 +13,15 @@ shown-side-requires-2 c κs = search needs
 
 returns : tie.Need-returns
 unfolding sized
-returns c = rw (sym (c .before .before .before .shown-side .ensures) ∙ c .before .before .if1 .taken, sym (c .before .shown-side2 .ensures) ∙ c .if2 .taken)
+returns c =
+    let low = c .before .before in
+    rw (sym (low .before .shown-side .ensures) ∙ low .if1 .taken, sym (c .before .shown-side2 .ensures) ∙ c .if2 .taken)
 
 returns-2 : tie.Need-returns-2
 unfolding sized
-returns-2 c = rw (sym (c .before .before .before .shown-side .ensures) ∙ c .before .before .if1 .taken, sym (c .before .shown-side2 .ensures) ∙ c .if2 .left)
+returns-2 c =
+    let low = c .before .before in
+    rw (sym (low .before .shown-side .ensures) ∙ low .if1 .taken, sym (c .before .shown-side2 .ensures) ∙ c .if2 .left)
 
 returns-3 : tie.Need-returns-3
 unfolding sized

@@ -33,8 +33,8 @@ returns : tie.Need-returns
 returns c =
     let read = c .before .before .before in
     let header = read .before .before in
-    c .values-of .ensures
-    ∙ for-sides (now (header .before .before .args .bytes)) (sym (header .header .ensures) ∙ read .height .given .1) (c .before .pixels .ensures)
+    let is = sym (header .header .ensures) ∙ read .height .given .1 in
+    c .values-of .ensures ∙ for-sides (now (header .before .before .args .bytes)) is (c .before .pixels .ensures)
 
 returns-2 : tie.Need-returns-2
 returns-2 c =

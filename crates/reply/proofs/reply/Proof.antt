@@ -1,5 +1,5 @@
--- `reply::reply` meets its contract: the two lines are those of the values that `answer_to` hands back for the bytes read, which are enough (Room).
--- Fourteen numbers fit into 380 bytes.
+-- `reply::reply` meets its contract: the two lines are those of the values that `answer_to` hands back for the bytes read, which are
+-- enough (Room). Fourteen numbers fit into 380 bytes.
 use mathlib.Core.Path.{refl, sym, ap, _∙_}
 use native.Mathlib.Omega.{arith}
 use denote.Ref.{now}
@@ -23,8 +23,8 @@ slice-aggregate-write-lines c = search needs
 
 write-lines-requires : tie.Need-write-lines-requires
 write-lines-requires c κs =
-    let values = c .before .before .answer-to .result in
-    omega (arith, c .before .before .before .before .before .before .pre .2, lines-fit values (sym (slice-aggregate-write-lines (c .before))))
+    let fit = lines-fit (c .before .before .answer-to .result) (sym (slice-aggregate-write-lines (c .before))) in
+    omega (arith, c .before .before .before .before .before .before .pre .2, fit)
 
 same-length : tie.Need-same-length
 same-length c = search needs
@@ -33,8 +33,10 @@ returns : tie.Need-returns
 returns c =
     let written = c .before .before in
     let values = written .before .before .before in
-    let lines = written .write-lines .ensures in
-    (λ input e. rw (values .answer-to .ensures ∙ sym (ap answerTo e) ∙ enough input) at lines, omega (arith, lines .0, front-fits (lines .1)))
+    let lines = written .write-lines .ensures in (
+      λ input e. rw (values .answer-to .ensures ∙ sym (ap answerTo e) ∙ enough input) at lines,
+      omega (arith, lines .0, front-fits (lines .1)),
+    )
 
 pub reply-spec : {M : Type 1} → statement M
 reply-spec =

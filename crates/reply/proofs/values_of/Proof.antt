@@ -66,8 +66,8 @@ returns-2 c =
     let called = c .before .before in
     let loaded = at-loaded (called .before .before .before) in
     let start = at-start loaded in
-    c .located .ensures
-    ∙ prints (loaded .new .ensures) (size (start .pre .0) (start .pre .1)) (called .before .before .if1 .left) _ (called .locate-shown .ensures)
+    let sized = size (start .pre .0) (start .pre .1) in
+    c .located .ensures ∙ prints (loaded .new .ensures) sized (called .before .before .if1 .left) _ (called .locate-shown .ensures)
 
 pub values-of-spec : {M : Type 1} → statement M
 values-of-spec =

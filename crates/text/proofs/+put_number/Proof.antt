@@ -88,7 +88,8 @@ put-number-put-number-requires t c κs =
     let start = c .before .before .before in
     let n = start .args .n in
     let more = ap length (decimal-more n (c .before .if1 .left) (start .fits .n .fits)) in
-    (omega (arith, start .pre .0, c .before .if1 .left), omega (arith, start .pre .1, more, length-append (decimal (n / 10)) ((48 + n % 10) ∷ [])))
+    let tenth = length-append (decimal (n / 10)) ((48 + n % 10) ∷ []) in
+    (omega (arith, start .pre .0, c .before .if1 .left), omega (arith, start .pre .1, more, tenth))
 
 put-number-digit-requires-2 : (t : ℕ) → put-number-lts.Need-digit-requires-2 (
   digit-reads.Asked,

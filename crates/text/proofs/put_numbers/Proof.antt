@@ -1,5 +1,5 @@
--- `text::put_numbers` meets its contract: the first number, then the rest of the line. The invariant: of that rest all is written but what follows
--- from the number k on. What is left of the numbers falls.
+-- `text::put_numbers` meets its contract: the first number, then the rest of the line. The invariant: of that rest all is written but what
+-- follows from the number k on. What is left of the numbers falls.
 use Prim.Native.Nat.{ℕ, _+_, _-_, _≤_, _<_}
 use mathlib.Core.Path.{_≡_, refl, ap}
 use mathlib.Core.List.{List, [], _∷_, _++_}
