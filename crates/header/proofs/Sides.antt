@@ -39,9 +39,11 @@ numbers-shown bytes from =
     let feed = digitsEnd bytes (space + 1) in
     let h = valueAt bytes from (space - from) 0 in
     let w = valueAt bytes (space + 1) (feed - (space + 1)) 0 in
+    let ends : fourAtMost bytes from space 32 ≡ true → fourAtMost bytes (space + 1) feed 10 ≡ true → feed + 1 ≤ from + 10 =
+    λ e g. omega (arith, four-facts bytes from space 32 e .1, four-facts bytes (space + 1) feed 10 g .1) in
     either (from + 10) (fourAtMost bytes from space 32) _ (Refused 11)
     (λ e. either (from + 10) (fourAtMost bytes (space + 1) feed 10) (sized h w (feed + 1)) (Refused 11)
-    (λ g. let f = four-facts bytes from space 32 e .1 in sized-shown (from + 10) h w (feed + 1) (omega (arith, four-facts bytes (space + 1) feed 10 g .1)))
+    (λ g. sized-shown (from + 10) h w (feed + 1) (ends e g))
     tt)
     tt
 

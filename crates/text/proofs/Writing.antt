@@ -38,13 +38,13 @@ module _ {whole : List ℕ} {at : ℕ} {before : List ℕ} where
   partly-none h = record { written = []; whole-is = refl; puts = puts-none at before; room = h }
 
   -- what is left takes what is left of the room
-  left : {rest after : List ℕ} {next : ℕ} → Partly whole rest at before next after → next + length rest ≡ at + length whole
-  left {rest} p = omega (arith, length-append (p .written) rest, ap length (p .whole-is), p .puts .next-is)
+  remains : {rest after : List ℕ} {next : ℕ} → Partly whole rest at before next after → next + length rest ≡ at + length whole
+  remains {rest} p = omega (arith, length-append (p .written) rest, ap length (p .whole-is), p .puts .next-is)
 
   -- so there is room for its next part
   pub partly-room : (part rest : List ℕ) {after : List ℕ} {next : ℕ} → Partly whole (part ++ rest) at before next after
       → next + length part ≤ length after
-  partly-room part rest p = omega (arith, left p, length-append part rest, p .puts .placed .len, p .room)
+  partly-room part rest p = omega (arith, remains p, length-append part rest, p .puts .placed .len, p .room)
 
   -- a part more
   pub partly-more : (part : List ℕ) {rest mid after : List ℕ} {m next : ℕ} → Partly whole (part ++ rest) at before m mid
@@ -53,7 +53,7 @@ module _ {whole : List ℕ} {at : ℕ} {before : List ℕ} where
       record {
         written = p .written ++ part;
         whole-is = append-assoc (p .written) part rest ∙ p .whole-is;
-        puts = puts-join (p .puts) x (omega (arith, left p, p .room));
+        puts = puts-join (p .puts) x (omega (arith, remains p, p .room));
         room = p .room;
       }
 

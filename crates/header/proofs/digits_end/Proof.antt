@@ -40,7 +40,8 @@ unfolding digitsEnd
 returns c =
     let at = c .before .before .before .before in
     let none = sym (c .before .is-digit .ensures) ∙ c .if1 .left in
-    sym (digit-none (now (at .before .before .args .bytes)) (at .loop .end) (c .before .before .before .loop-test .taken) none) ∙ at .loop .inv
+    let bytes = now (at .before .before .args .bytes) in
+    sym (digit-none bytes (at .loop .end) (c .before .before .before .loop-test .taken) none) ∙ at .loop .inv
 
 returns-2 : tie.Need-returns-2 Inv-loop μ-loop
 unfolding digitsEnd

@@ -1,6 +1,6 @@
 -- `header::numbers_at` meets its contract: the three ways to read two numbers (Numbers). No sum wraps, as a number has at most four digits.
 use Rattle.header.proofs.Numbers.{four-facts, first-bad, second-bad, both-good}
-use Prim.Native.Nat.{_+_}
+use Prim.Native.Nat.{ℕ, _+_}
 use mathlib.Core.Path.{_≡_, sym, _∙_}
 use mathlib.Core.Bool.{true}
 use native.Mathlib.Omega.{arith}
@@ -10,18 +10,23 @@ use borrow.Author.Needs.{needs}
 use Rattle.header.proofs.numbers_at.Statement.{statement}
 use Rattle.header.proofs.numbers_at.Tie as tie
 
--- what the two tests show, and so where the two numbers end
-first : (c : tie.Then1) →
-    fourAtMost (now (c .before .before .before .before .args .bytes)) (c .before .before .before .before .args .from) (c .before .before .digits-end .result) 32
-    ≡ true
-first c = sym (c .before .four-at-most .ensures) ∙ c .if1 .taken
+abbrev at-start : tie.Then1 → tie.Start
+at-start c = c .before .before .before .before
 
 abbrev at-first : tie.Then2 → tie.Then1
 at-first c = c .before .before .before
 
-second : (c : tie.Then2) →
-    fourAtMost (now (at-first c .before .before .before .before .args .bytes)) (at-first c .before .before .digits-end .result + 1) (c .before .before .digits-end2 .result) 10
-    ≡ true
+-- where the two numbers end, and what the tests of them show
+abbrev space : tie.Then1 → ℕ
+space c = c .before .before .digits-end .result
+
+abbrev feed : tie.Then2 → ℕ
+feed c = c .before .before .digits-end2 .result
+
+first : (c : tie.Then1) → fourAtMost (now (at-start c .args .bytes)) (at-start c .args .from) (space c) 32 ≡ true
+first c = sym (c .before .four-at-most .ensures) ∙ c .if1 .taken
+
+second : (c : tie.Then2) → fourAtMost (now (at-start (at-first c) .args .bytes)) (space (at-first c) + 1) (feed c) 10 ≡ true
 second c = sym (c .before .four-at-most2 .ensures) ∙ c .if2 .taken
 
 digits-end-requires : tie.Need-digits-end-requires
