@@ -101,14 +101,15 @@ static void print_load(const folgutan_loaded *loaded, const float *planes)
 static int print_board(folgutan_board board, float *planes, size_t planes_len)
 {
     size_t area = board.height * board.width, sides = board.height + board.width;
-    uint8_t *edges = calloc(area, 1), *bytes = calloc(area, 1);
+    uint8_t *edges = calloc(area, 1), *scratch_u8 = calloc(area, 1);
     uint32_t *scores = calloc(sides, sizeof *scores);
-    uint32_t *words = calloc(4 * sides, sizeof *words);
-    float *floats = calloc(area, sizeof *floats);
+    uint32_t *scratch_u32 = calloc(4 * sides, sizeof *scratch_u32);
+    float *scratch_f32 = calloc(area, sizeof *scratch_f32);
     int found = 1;
-    if (edges && bytes && scores && words && floats) {
+    if (edges && scratch_u8 && scores && scratch_u32 && scratch_f32) {
         folgutan_located l = folgutan_locate(board, planes, planes_len, edges, area, scores, sides,
-                                             floats, area, bytes, area, words, 4 * sides);
+                                             scratch_f32, area, scratch_u8, area, scratch_u32,
+                                             4 * sides);
         printf("locate: answer %u, %s\n", (unsigned)l.answer, meaning(l.answer));
         if (l.answer == FOLGUTAN_DONE) {
             printf("board: %zu rows, %zu columns, corner (%zu, %zu), offsets %zu and %zu\n", l.board.r,
@@ -131,10 +132,10 @@ static int print_board(folgutan_board board, float *planes, size_t planes_len)
     } else {
         fprintf(stderr, "no memory for the slices\n");
     }
-    free(floats);
-    free(words);
+    free(scratch_f32);
+    free(scratch_u32);
     free(scores);
-    free(bytes);
+    free(scratch_u8);
     free(edges);
     return found;
 }

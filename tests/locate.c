@@ -10,7 +10,7 @@
 /* A call: the record, the lengths of the six slices, and a value put into the planes. */
 typedef struct {
     folgutan_board board;
-    size_t planes, edges, scores, floats, bytes, words;
+    size_t planes, edges, scores, scratch_f32, scratch_u8, scratch_u32;
     size_t bad;
     uint32_t bits;
 } call;
@@ -26,7 +26,7 @@ static call fitting(size_t height, size_t width)
                   .c0 = SIZE_MAX, .r = 9, .c = 8, .pixelr = float_of(0x7FA00001),
                   .pixelc = -1.0f},
         .planes = 3 * area, .edges = area, .scores = sides,
-        .floats = area, .bytes = area, .words = 4 * sides, .bad = NOWHERE,
+        .scratch_f32 = area, .scratch_u8 = area, .scratch_u32 = 4 * sides, .bad = NOWHERE,
     };
     return c;
 }
@@ -59,17 +59,18 @@ static left locate(const float *values, size_t height, size_t width, call c)
         out.edges[at] = byte_canary(at);
     for (size_t at = 0; at < c.scores + MARGIN; at++)
         out.scores[at] = canary(at);
-    float *floats = memory(c.floats, sizeof *floats);
-    uint8_t *bytes = memory(c.bytes, 1);
-    uint32_t *words = memory(c.words, sizeof *words);
-    memset(floats, 0x5A, c.floats * sizeof *floats);
-    memset(bytes, 0x5A, c.bytes);
-    memset(words, 0x5A, c.words * sizeof *words);
+    float *scratch_f32 = memory(c.scratch_f32, sizeof *scratch_f32);
+    uint8_t *scratch_u8 = memory(c.scratch_u8, 1);
+    uint32_t *scratch_u32 = memory(c.scratch_u32, sizeof *scratch_u32);
+    memset(scratch_f32, 0x5A, c.scratch_f32 * sizeof *scratch_f32);
+    memset(scratch_u8, 0x5A, c.scratch_u8);
+    memset(scratch_u32, 0x5A, c.scratch_u32 * sizeof *scratch_u32);
     out.located = folgutan_locate(c.board, out.planes.at, c.planes, out.edges, c.edges, out.scores,
-                                  c.scores, floats, c.floats, bytes, c.bytes, words, c.words);
-    free(floats);
-    free(bytes);
-    free(words);
+                                  c.scores, scratch_f32, c.scratch_f32, scratch_u8, c.scratch_u8,
+                                  scratch_u32, c.scratch_u32);
+    free(scratch_f32);
+    free(scratch_u8);
+    free(scratch_u32);
     return out;
 }
 
@@ -130,7 +131,7 @@ static void refusals(void)
             if (turn != 1)
                 c.board.width = bad[at];
             refused("bad side", values, height, width, c, FOLGUTAN_BAD_SIDE);
-            c.planes = c.edges = c.scores = c.floats = c.bytes = c.words = 0;
+            c.planes = c.edges = c.scores = c.scratch_f32 = c.scratch_u8 = c.scratch_u32 = 0;
             refused("bad side, no slices", values, height, width, c, FOLGUTAN_BAD_SIDE);
             c = fitting(height, width);
             c.board.height = bad[at];
@@ -141,7 +142,8 @@ static void refusals(void)
     for (size_t field = 0; field < 6; field++)
         for (size_t turn = 0; turn < 3; turn++) {
             call c = fitting(height, width);
-            size_t *lengths[] = {&c.planes, &c.edges, &c.scores, &c.floats, &c.bytes, &c.words};
+            size_t *lengths[] = {&c.planes,      &c.edges,      &c.scores,
+                                 &c.scratch_f32, &c.scratch_u8, &c.scratch_u32};
             *lengths[field] = turn == 0 ? *lengths[field] - 1 : 0;
             if (turn == 2) {
                 c.bad = 0;

@@ -67,9 +67,9 @@ pub struct Located {
 pub struct Slices<'a> {
     pub edges: &'a mut [u8],
     pub scores: &'a mut [u32],
-    pub floats: &'a mut [f32],
-    pub bytes: &'a mut [u8],
-    pub words: &'a mut [u32],
+    pub scratch_f32: &'a mut [f32],
+    pub scratch_u8: &'a mut [u8],
+    pub scratch_u32: &'a mut [u32],
 }
 
 /// folgutan_reading of include/folgutan.h.
@@ -123,12 +123,12 @@ mod linked {
             edges_len: usize,
             scores: *mut u32,
             scores_len: usize,
-            floats: *mut f32,
-            floats_len: usize,
-            bytes: *mut u8,
-            bytes_len: usize,
-            words: *mut u32,
-            words_len: usize,
+            scratch_f32: *mut f32,
+            scratch_f32_len: usize,
+            scratch_u8: *mut u8,
+            scratch_u8_len: usize,
+            scratch_u32: *mut u32,
+            scratch_u32_len: usize,
         ) -> Located;
         pub fn folgutan_read_line(
             list: *const u32,
@@ -252,7 +252,7 @@ pub fn gradient(height: usize, width: usize, planes: &[f32], out: &mut [f32]) ->
 }
 
 pub fn locate(board: Board, planes: &mut [f32], slices: Slices) -> Located {
-    let Slices { edges, scores, floats, bytes, words } = slices;
+    let Slices { edges, scores, scratch_f32, scratch_u8, scratch_u32 } = slices;
     unsafe {
         linked::folgutan_locate(
             board,
@@ -262,12 +262,12 @@ pub fn locate(board: Board, planes: &mut [f32], slices: Slices) -> Located {
             edges.len(),
             scores.as_mut_ptr(),
             scores.len(),
-            floats.as_mut_ptr(),
-            floats.len(),
-            bytes.as_mut_ptr(),
-            bytes.len(),
-            words.as_mut_ptr(),
-            words.len(),
+            scratch_f32.as_mut_ptr(),
+            scratch_f32.len(),
+            scratch_u8.as_mut_ptr(),
+            scratch_u8.len(),
+            scratch_u32.as_mut_ptr(),
+            scratch_u32.len(),
         )
     }
 }

@@ -65,12 +65,20 @@ fn replay(
     planes: &mut [f32],
     edges: &mut [u8],
     scores: &mut [u32],
-    floats: &mut [f32],
-    bytes: &mut [u8],
-    words: &mut [u32],
+    scratch_f32: &mut [f32],
+    scratch_u8: &mut [u8],
+    scratch_u32: &mut [u32],
 ) {
     let loaded = load::new(height, width, pixels, planes);
-    show(locate::get_pos_pixel(loaded.board, planes, edges, scores, floats, bytes, words));
+    show(locate::get_pos_pixel(
+        loaded.board,
+        planes,
+        edges,
+        scores,
+        scratch_f32,
+        scratch_u8,
+        scratch_u32,
+    ));
 }
 
 // Replays the next screen; false where no whole screen is left.
@@ -79,9 +87,9 @@ fn replayed(
     planes: &mut [f32],
     edges: &mut [u8],
     scores: &mut [u32],
-    floats: &mut [f32],
-    bytes: &mut [u8],
-    words: &mut [u32],
+    scratch_f32: &mut [f32],
+    scratch_u8: &mut [u8],
+    scratch_u32: &mut [u32],
 ) -> bool {
     let mut sides = [0u8; 4];
     if io::read_full(STDIN_FILENO, &mut sides) < 4 {
@@ -99,9 +107,9 @@ fn replayed(
         planes,
         edges,
         scores,
-        floats,
-        bytes,
-        words,
+        scratch_f32,
+        scratch_u8,
+        scratch_u32,
     );
     true
 }
@@ -112,13 +120,21 @@ fn replay_all(
     planes: &mut [f32],
     edges: &mut [u8],
     scores: &mut [u32],
-    floats: &mut [f32],
-    bytes: &mut [u8],
-    words: &mut [u32],
+    scratch_f32: &mut [f32],
+    scratch_u8: &mut [u8],
+    scratch_u32: &mut [u32],
 ) {
     let mut left: usize = 100;
     while 0 < left {
-        if replayed(pixels, planes, edges, scores, floats, bytes, words) {
+        if replayed(
+            pixels,
+            planes,
+            edges,
+            scores,
+            scratch_f32,
+            scratch_u8,
+            scratch_u32,
+        ) {
             left = left - 1;
         } else {
             left = 0;
@@ -131,16 +147,16 @@ fn main() {
     let mut planes: [f32; 132300] = [0.0; 132300];
     let mut edges: [u8; 44100] = [0; 44100];
     let mut scores: [u32; 420] = [0; 420];
-    let mut floats: [f32; 44100] = [0.0; 44100];
-    let mut bytes: [u8; 44100] = [0; 44100];
-    let mut words: [u32; 1680] = [0; 1680];
+    let mut scratch_f32: [f32; 44100] = [0.0; 44100];
+    let mut scratch_u8: [u8; 44100] = [0; 44100];
+    let mut scratch_u32: [u32; 1680] = [0; 1680];
     replay_all(
         &mut pixels,
         &mut planes,
         &mut edges,
         &mut scores,
-        &mut floats,
-        &mut bytes,
-        &mut words,
+        &mut scratch_f32,
+        &mut scratch_u8,
+        &mut scratch_u32,
     );
 }

@@ -15,9 +15,9 @@ struct Room {
     planes: Vec<f32>,
     edges: Vec<u8>,
     scores: Vec<u32>,
-    floats: Vec<f32>,
-    bytes: Vec<u8>,
-    words: Vec<u32>,
+    scratch_f32: Vec<f32>,
+    scratch_u8: Vec<u8>,
+    scratch_u32: Vec<u32>,
 }
 
 impl Room {
@@ -27,15 +27,15 @@ impl Room {
             planes: vec![0.0; 3 * area],
             edges: vec![0; area],
             scores: vec![0; sides],
-            floats: vec![0.0; area],
-            bytes: vec![0; area],
-            words: vec![0; 4 * sides],
+            scratch_f32: vec![0.0; area],
+            scratch_u8: vec![0; area],
+            scratch_u32: vec![0; 4 * sides],
         }
     }
 
     fn locate(&mut self, board: port::Board) -> Located {
-        let Room { planes, edges, scores, floats, bytes, words } = self;
-        port::locate(board, planes, Slices { edges, scores, floats, bytes, words })
+        let Room { planes, edges, scores, scratch_f32, scratch_u8, scratch_u32 } = self;
+        port::locate(board, planes, Slices { edges, scores, scratch_f32, scratch_u8, scratch_u32 })
     }
 }
 

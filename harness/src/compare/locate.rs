@@ -245,27 +245,27 @@ impl Cases {
         let mut lent_planes = Lent::holding(&values, call.lengths[0]);
         let mut edges = Lent::new(call.lengths[1]);
         let mut scores = Lent::new(call.lengths[2]);
-        let mut floats: Lent<f32> = Lent::new(call.lengths[3]);
-        let mut bytes: Lent<u8> = Lent::new(call.lengths[4]);
-        let mut words: Lent<u32> = Lent::new(call.lengths[5]);
+        let mut scratch_f32: Lent<f32> = Lent::new(call.lengths[3]);
+        let mut scratch_u8: Lent<u8> = Lent::new(call.lengths[4]);
+        let mut scratch_u32: Lent<u32> = Lent::new(call.lengths[5]);
         let have = port::locate(
             Board::of(&call.given),
             lent_planes.slice(),
             Slices {
                 edges: edges.slice(),
                 scores: scores.slice(),
-                floats: floats.slice(),
-                bytes: bytes.slice(),
-                words: words.slice(),
+                scratch_f32: scratch_f32.slice(),
+                scratch_u8: scratch_u8.slice(),
+                scratch_u32: scratch_u32.slice(),
             },
         );
         let area = call.given.height.saturating_mul(call.given.width);
         let sides = call.given.height.saturating_add(call.given.width);
         let scratch_kept = || {
-            floats
-                .beyond("scratch of binary32", area)
-                .or_else(|| bytes.beyond("scratch of bytes", area))
-                .or_else(|| words.beyond("scratch of words", sides.saturating_mul(4)))
+            scratch_f32
+                .beyond("scratch_f32", area)
+                .or_else(|| scratch_u8.beyond("scratch_u8", area))
+                .or_else(|| scratch_u32.beyond("scratch_u32", sides.saturating_mul(4)))
         };
         if let Some(answer) = call.rule() {
             self.answers[answer as usize] += 1;

@@ -6,12 +6,12 @@ use Rattle.replay_screens.proofs.replay_all.Statement.{statement}
 use Rattle.replay_screens.proofs.replay_all.Tie as tie
 
 abbrev Inv-loop : tie.InvT-loop
-Inv-loop pixels₀ planes₀ edges₀ scores₀ floats₀ bytes₀ words₀ left₀ pixels planes edges scores floats bytes words left =
+Inv-loop pixels₀ planes₀ edges₀ scores₀ f32₀ u8₀ u32₀ left₀ pixels planes edges scores f32 u8 u32 left =
     (length pixels ≡ length pixels₀) × (length planes ≡ length planes₀) × (length edges ≡ length edges₀) × (length scores ≡ length scores₀)
-    × (length floats ≡ length floats₀) × (length bytes ≡ length bytes₀) × (length words ≡ length words₀)
+    × (length f32 ≡ length f32₀) × (length u8 ≡ length u8₀) × (length u32 ≡ length u32₀)
 
 abbrev μ-loop : tie.MeasureT-loop
-μ-loop pixels₀ planes₀ edges₀ scores₀ floats₀ bytes₀ words₀ left₀ pixels planes edges scores floats bytes words left =
+μ-loop pixels₀ planes₀ edges₀ scores₀ f32₀ u8₀ u32₀ left₀ pixels planes edges scores f32 u8 u32 left =
     left
 
 loop-holds : tie.Need-loop-holds Inv-loop μ-loop
