@@ -1,7 +1,7 @@
 -- The order of the binary32 values that are not negative is the order of their bits. Assumes nothing.
-use Prim.Native.Nat.{ℕ, zero, suc, _+_, _-_, _*_, _/_, _%_, _^_, _≤_, _<_}
+use Prim.Native.Nat.{ℕ, zero, suc, _+_, _*_, _/_, _%_, _^_, _≤_, _<_}
 use mathlib.Core.Path.{_≡_, refl, sym}
-use mathlib.Core.Logic.{_⊎_, ⊎-elim}
+use mathlib.Core.Logic.{⊎-elim}
 use mathlib.Core.Bool.{Bool, true, false, _&&_, _||_, cond, true≢false}
 use native.Mathlib.Nat.{mul-one, mul-le-mul-left, mul-le-mul-right, mul-lt-mul-of-pos-right, lt-of-lt-of-le, le-of-lt, eq-or-lt-of-le, mod-eq-of-lt, pow-suc, le-of-mul-le-mul-right, not-le-of-lt, lt-of-not-le}
 use native.Mathlib.Omega.{arith}

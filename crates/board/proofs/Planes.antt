@@ -9,7 +9,7 @@ use lib.Dec.{ltb}
 use lib.Ieee.{Float}
 use lib.ListN.{length, take}
 use Rattle.board.specs.Board.{sidesOutside}
-use Rattle.board.specs.Planes.{allUnits, planesAnswer, SidesIn, FitPlanes}
+use Rattle.board.specs.Planes.{allUnits, planesAnswer, FitPlanes}
 use Rattle.board.proofs.Sides.{neither, passed, sides-in, sides-pass}
 
 is-true : (b : Bool) → not b ≡ false → b ≡ true

@@ -1,4 +1,4 @@
--- Lists whose first n values are units: what it says of one value, and how a count of the others tells it. Assumes nothing.
+-- Lists of units, told of each value; lists whose first n values are units, and how a count of the others tells it. Assumes nothing.
 use Prim.Native.Nat.{ℕ, zero, suc, _+_, _≤_, _<_}
 use mathlib.Core.Path.{_≡_, refl, _∙_}
 use mathlib.Core.Bool.{Bool, true, false, not, _&&_}
@@ -20,6 +20,10 @@ pub units-at : (l : List Float) (k : ℕ) → allUnits l ≡ true → k < length
 units-at [] k e h = absurd (omega arith)
 units-at (x ∷ l) zero e h = both (unit x) (allUnits l) e .0
 units-at (x ∷ l) (suc k) e h = units-at l k (both (unit x) (allUnits l) e .1) (omega arith)
+
+pub units-all : (l : List Float) → ((k : ℕ) → k < length l → unit (getD l k nan) ≡ true) → allUnits l ≡ true
+units-all [] h = refl
+units-all (x ∷ l) h = rw (h 0 (omega arith)) (units-all l (λ k b. h (suc k) (omega arith)))
 
 -- one of the first n values, which are units
 pub unit-below : (p : List Float) (n k : ℕ) → n ≤ length p → allUnits (take n p) ≡ true → k < n → unit (getD p k nan) ≡ true

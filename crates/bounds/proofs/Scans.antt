@@ -9,7 +9,7 @@ use borrow.Author.Tests.{leb-false, ltb-true, ne-eqb}
 use lib.Dec.{eqb, leb, ltb}
 use Rattle.bounds.specs.declared.Move.{Move}
 use Rattle.bounds.specs.declared.Move.the-variants.{Stop, To}
-use Rattle.bounds.specs.Scan.{seenAt, fifth, jump, skips, move, after, scanned}
+use Rattle.bounds.specs.Scan.{seenAt, fifth, jump, skips, move, followed, scanned}
 
 -- places left, of hi
 pub left-more : {hi p : ℕ} → p < hi → hi - p ≡ suc (hi - (p + 1))
@@ -100,6 +100,6 @@ module _ (at : ℕ → ℕ → Bool) (lo hi : ℕ) where
   scan-le zero m p = omega arith
   scan-le (suc moves) m p = on (scan-le moves) (move at lo hi m p) (move-falls {across = suc (hi + p)} (omega arith) (omega arith) m)
     where
-      on : ((m' p' : ℕ) → scanned at lo hi moves m' p' ≤ m') → (o : Move) → Falls (suc (hi + p)) m o → after o m (scanned at lo hi moves) ≤ m
+      on : ((m' p' : ℕ) → scanned at lo hi moves m' p' ≤ m') → (o : Move) → Falls (suc (hi + p)) m o → followed o m (scanned at lo hi moves) ≤ m
       on ih Stop f = omega arith
       on ih (To m' p') f = omega (arith, ih m' p', f .0)

@@ -1,27 +1,26 @@
 -- The promise follows from what locating gives. Assumes nothing.
-use Prim.Native.Nat.{ℕ, _+_, _≤_, _<_}
-use mathlib.Core.Path.{_≡_, refl, sym, ap, _∙_}
+use Prim.Native.Nat.{ℕ, _+_, _<_}
+use mathlib.Core.Path.{_≡_, refl, _∙_}
 use mathlib.Core.Bool.{Bool, true, false, cond}
 use mathlib.Core.List.{List, [], _++_}
 use native.Mathlib.Omega.{arith}
 use borrow.Author.Tests.{eqb-true, eqb-false}
-use lib.Dec.{eqb}
 use lib.ListN.{length, getD, length-append, List·getD-append}
 use lib.Seq.{getD-append-add}
 use Rattle.lists.specs.Front.{AtFront}
 use Rattle.lists.proofs.Front.{front-within}
 use Rattle.board.specs.declared.Board.{Board}
 use Rattle.board.specs.Board.{resized}
-use Rattle.strips.specs.Strip.{places, columnScores, rowScores}
+use Rattle.strips.specs.Strip.{places}
 use Rattle.strips.proofs.Scores.{count-is, length-scores}
 use Rattle.reading.specs.declared.Quarters.{Quarters}
 use Rattle.reading.specs.declared.Quarters.the-variants.{Read, Refused}
 use Rattle.reading.specs.Reading.{quartersOf}
-use Rattle.axes.specs.Axes.{Short}
-use Rattle.axes.proofs.Scoring.{scores-fit, quarters-short}
+use Rattle.axes.specs.Axes.{Fits32}
+use Rattle.axes.proofs.Scoring.{scores-fit, quarters-fit}
 use Rattle.lines.specs.Lines.{InLimits}
 use Rattle.locate.specs.declared.Located.{Located}
-use Rattle.locate.specs.Reference.{Reference, columnAxis, rowAxis, referenceOf}
+use Rattle.locate.specs.Reference.{Reference, columnAxis, rowAxis}
 use Rattle.locate.specs.Locate.{Lent, checked, passes, declined, joined, found, scoresOf, referenceFor, LocateGives}
 use Rattle.locate.specs.Promise.{Optimal, Promise}
 use Rattle.locate.proofs.Checks.{fit}
@@ -65,7 +64,7 @@ module _ (g : Reference) (s : Scored g) where
         }
 
     -- by the readings: the answer is 0 only where both were accepted
-    pub optimal-by : (b : Board) (n : ℕ) (columns rows : Quarters) → quartersOf (g .columns) ≡ columns → quartersOf (g .rows) ≡ rows → Short columns
+    pub optimal-by : (b : Board) (n : ℕ) (columns rows : Quarters) → quartersOf (g .columns) ≡ columns → quartersOf (g .rows) ≡ rows → Fits32 columns
         → joined b n (g .bounds) columns rows .answer ≡ 0 → Optimal g (joined b n (g .bounds) columns rows) after
     optimal-by b n (Refused k) rows e f t z = absurd (omega (arith, t .0))
     optimal-by b n (Read q offset count voted) (Refused k) e f t z = absurd (omega arith)
@@ -88,7 +87,7 @@ found-optimal b g before after s x z = go (g .last .tooSmall) refl x z
     go : (t : Bool) → g .last .tooSmall ≡ t → AtFront (cond t [] (g .columns ++ g .rows)) before after
         → cond t (declined sized 5 n) read .answer ≡ 0 → Optimal g (cond t (declined sized 5 n) read) after
     go true e y w = absurd (omega arith)
-    go false e y w = optimal-by g (s e) y sized n _ _ refl refl (quarters-short (g .columns) (columns-fit g (s e))) w
+    go false e y w = optimal-by g (s e) y sized n _ _ refl refl (quarters-fit (g .columns) (columns-fit g (s e))) w
 
 pub promised : (b : Board) (before : Lent) (r : Located) (after : Lent) → LocateGives b before r after → Promise b before r after
 promised b before r after g = go (passes b before) refl (g .located-is) (g .scores-are)

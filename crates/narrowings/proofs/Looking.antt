@@ -2,7 +2,6 @@
 use Prim.Native.Nat.{ℕ, _-_, _*_, _≤_}
 use mathlib.Core.Path.{_≡_, refl}
 use mathlib.Core.List.{List}
-use native.Mathlib.Nat.{mul-le-mul}
 use native.Mathlib.Omega.{arith}
 use lib.Ieee.{Float}
 use lib.ListN.{length, take}
@@ -12,9 +11,6 @@ use Rattle.gradient.specs.Gradient.{gradients}
 use Rattle.gradient.proofs.Laws.{length-gradients}
 use Rattle.edges.specs.Edges.{threshold, marks, edges}
 use Rattle.edges.proofs.Laws.{edges-of-gradients, length-edges}
-
-pub inner-le : (h w : ℕ) → (h - 2) * (w - 2) ≤ h * w
-inner-le h w = mul-le-mul (omega arith) (omega arith)
 
 module _ (h w : ℕ) (planes : List Float) where
   -- the part of a slice that holds the gradients, and the part that holds the edge picture

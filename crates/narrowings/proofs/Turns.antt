@@ -18,7 +18,6 @@ use Rattle.board.proofs.Sides.{neither}
 use Rattle.narrow.specs.Narrow.{narrow}
 use Rattle.narrow.proofs.Laws.{smaller, narrow-length, narrow-fit}
 use Rattle.bounds.proofs.Laws.{Around, around}
-use Rattle.narrowings.specs.declared.Narrowed.{Narrowed}
 use Rattle.narrowings.specs.Loop.{Stage, stage, first, pictureIn, boundsIn, thin, small, next, Last, turn, looped, lastOf}
 use Rattle.narrowings.specs.Steps.{Narrows}
 
@@ -54,6 +53,10 @@ sound-around {s = s} p = around (pictureIn s) (omega (arith, p .fit .sides .low-
 -- they are in order
 pub ordered : {h w long : ℕ} {s : Stage} → Sound h w long s → (boundsIn s .«r_1» ≤ boundsIn s .«r_2») × (boundsIn s .«c_1» ≤ boundsIn s .«c_2»)
 ordered p = let a = sound-around p in (omega (arith, a .rows .low, a .rows .high), omega (arith, a .columns .low, a .columns .high))
+
+-- the factor of the code
+pub by-three : 2 ≤ 3
+by-three = omega arith
 
 module _ (f : ℕ) (two : 2 ≤ f) where
   pub sound-next : {h w long : ℕ} {s : Stage} → Sound h w long s → small (s .height / f) (s .width / f) ≡ false → Sound h w long (next f s)

@@ -11,10 +11,11 @@ use Rattle.lists.proofs.Front.{front-all}
 use Rattle.board.specs.Board.{leastSide, sidesOutside, fresh}
 use Rattle.board.specs.Screen.{packed}
 use Rattle.board.specs.Planes.{FitPlanes}
+use Rattle.board.proofs.Packed.{length-packed}
 use Rattle.board.proofs.Sides.{passed, sides-in}
 use Rattle.load.specs.declared.Loaded.{Loaded}
 use Rattle.load.specs.Load.{mostByte, shown, loadAnswer, LoadGives}
-use Rattle.load.proofs.Laws.{length-packed, shown-fit}
+use Rattle.load.proofs.Laws.{shown-fit}
 
 -- the planes of the screen
 abbrev pub planesOf : ℕ → ℕ → List ℕ → List Float

@@ -2,13 +2,13 @@
 use mathlib.Core.Path.{_≡_, refl, sym, _∙_}
 use native.Mathlib.Omega.{arith}
 use denote.Ref.{now}
-use lib.ListN.{length, length-take}
+use lib.ListN.{length-take}
 use lib.Seq.{drop-at, length-take-le}
 use Rattle.board.specs.declared.Board.{Board}
 use Rattle.board.specs.Board.{leastSide}
 use Rattle.board.specs.Planes.{FitPlanes}
 use Rattle.locate.specs.Locate.{Lent, lent, checked}
-use Rattle.locate.specs.Steps.{Room}
+use Rattle.locate.specs.Steps.{NoneShort}
 use Rattle.locate.proofs.Checks.{fit}
 use Rattle.locate.proofs.Working.{refuses, accepts}
 use borrow.Author.Needs.{needs}
@@ -31,7 +31,7 @@ passed c = sym (c .before .check .ensures) ∙ c .if1 .left
 fits : (c : tie.Else1) → FitPlanes leastSide (board (c .before) .height) (board (c .before) .width) (slices (c .before) .planes)
 fits c = fit (board (c .before)) (slices (c .before)) (passed c) .0
 
-room : (c : tie.Else1) → Room (board (c .before) .height) (board (c .before) .width) (slices (c .before))
+room : (c : tie.Else1) → NoneShort (board (c .before) .height) (board (c .before) .width) (slices (c .before))
 room c = fit (board (c .before)) (slices (c .before)) (passed c) .1
 
 check-requires : tie.Need-check-requires

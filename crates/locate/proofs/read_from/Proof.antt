@@ -1,10 +1,10 @@
 -- `locate::read_from` meets its contract: the last bounds, widened, are fit for the scores, and both axes are read over them.
 use Prim.Native.Nat.{_-_, _*_}
-use mathlib.Core.Path.{_≡_, sym}
+use mathlib.Core.Path.{sym}
 use native.Mathlib.Omega.{arith}
 use denote.Ref.{now}
 use lib.ListN.{take}
-use Rattle.axes.proofs.Scoring.{across-fit, down-fit, quarters-short}
+use Rattle.axes.proofs.Scoring.{across-fit, down-fit, quarters-fit}
 use Rattle.strips.specs.States.{Scorable}
 use Rattle.locate.proofs.Leading.{picture-length, rows-in, scorable, room-for}
 use borrow.Author.Needs.{needs}
@@ -65,8 +65,8 @@ joined-requires c κs =
     let read = c .before .before .before .before .before .before .before in
     let at = at-widen read in
     let is = read .read-axes .ensures in (
-      rw (is .columns-are) (quarters-short _ (across-fit _ _ (is .scores-are) (can-score at))),
-      rw (is .rows-are) (quarters-short _ (down-fit _ _ (is .scores-are) (can-score at))),
+      rw (is .columns-are) (quarters-fit _ (across-fit _ _ (is .scores-are) (can-score at))),
+      rw (is .rows-are) (quarters-fit _ (down-fit _ _ (is .scores-are) (can-score at))),
     )
 
 same-length : tie.Need-same-length

@@ -1,5 +1,5 @@
 -- `locate::slices_short` meets its contract: within the limits no number wraps, and each way out is the first slice that is short.
-use mathlib.Core.Path.{_≡_, sym, _∙_}
+use mathlib.Core.Path.{sym, _∙_}
 use mathlib.Core.Bool.{true≢false}
 use native.Mathlib.Omega.{arith}
 use borrow.Author.Tests.{lt-ltb, le-ltb}

@@ -10,7 +10,7 @@ use Rattle.board.proofs.Planes.{fit-lower}
 use Rattle.narrowings.specs.Loop.{first, lastOf}
 use Rattle.narrowings.specs.Steps.{Looks, Narrows}
 use Rattle.locate.specs.Locate.{Lent, lent}
-use Rattle.locate.specs.Steps.{Room}
+use Rattle.locate.specs.Steps.{NoneShort}
 use Rattle.locate.proofs.Working.{leads, works-small, works-read}
 use borrow.Author.Needs.{needs}
 use Rattle.locate.proofs.work.Statement.{statement}
@@ -31,7 +31,7 @@ slices c =
 fits : (c : tie.After-narrow-on) → FitPlanes leastSide (board c .height) (board c .width) (slices c .planes)
 fits c = c .before .before .before .before .before .before .before .before .before .before .before .before .before .before .before .before .before .before .pre .0
 
-room : (c : tie.After-narrow-on) → Room (board c .height) (board c .width) (slices c)
+room : (c : tie.After-narrow-on) → NoneShort (board c .height) (board c .width) (slices c)
 room c = c .before .before .before .before .before .before .before .before .before .before .before .before .before .before .before .before .before .before .pre .1
 
 looks : (c : tie.After-narrow-on)

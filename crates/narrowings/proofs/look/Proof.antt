@@ -11,11 +11,11 @@ use Rattle.lists.specs.Front.{AtFront}
 use Rattle.board.specs.Board.{leastPlaneSide}
 use Rattle.board.specs.Planes.{SidesIn}
 use Rattle.gradient.specs.Gradient.{gradients}
-use Rattle.gradient.proofs.Laws.{length-gradients}
+use Rattle.gradient.proofs.Laws.{inner-le, length-gradients}
 use Rattle.edges.specs.Edges.{edges}
 use Rattle.edges.proofs.Laws.{length-edges, all-plain}
 use Rattle.bounds.specs.Bounds.{boundsOf}
-use Rattle.narrowings.proofs.Looking.{inner-le, gradients-in, gradients-part, edges-in, edges-part, edged}
+use Rattle.narrowings.proofs.Looking.{gradients-in, gradients-part, edges-in, edges-part, edged}
 use borrow.Author.Needs.{needs}
 use Rattle.narrowings.proofs.look.Statement.{statement}
 use Rattle.narrowings.proofs.look.Tie as tie

@@ -1,5 +1,5 @@
 -- `narrowings::narrow_on` meets its contract. The invariant: the loop from the start is the loop from here. The height falls.
-use Prim.Native.Nat.{ℕ, _/_, _≤_}
+use Prim.Native.Nat.{ℕ, _/_}
 use mathlib.Core.Path.{_≡_, refl, sym, _∙_}
 use mathlib.Core.Bool.{true, false}
 use native.Mathlib.Omega.{arith}
@@ -7,19 +7,15 @@ use denote.Ref.{now}
 use lib.ListN.{length}
 use Rattle.board.specs.Board.{leastPlaneSide}
 use Rattle.board.proofs.Planes.{fit-lower}
-use Rattle.narrow.proofs.Laws.{smaller}
-use Rattle.narrowings.specs.Loop.{Stage, stage, boundsIn, thin, small, next}
-use Rattle.narrowings.proofs.Turns.{Going, Sound, going-first, going-on, sound-next, ordered, narrows-end, narrows-small}
+use Rattle.narrowings.specs.Loop.{Stage, stage, boundsIn, thin, small}
+use Rattle.narrowings.proofs.Turns.{by-three, Going, Sound, going-first, going-on, sound-next, ordered, narrows-end, narrows-small}
 use borrow.Author.Needs.{needs}
 use Rattle.narrowings.proofs.narrow_on.Statement.{statement}
 use Rattle.narrowings.proofs.narrow_on.Tie as tie
 
-two : 2 ≤ 3
-two = omega arith
-
 abbrev Inv-loop : tie.InvT-loop
 Inv-loop height width planes₀ f32₀ u8₀ h₀ w₀ b₀ n₀ planes f32 u8 h w b n =
-    Going 3 two height width planes₀ (stage h w planes n) × (b ≡ boundsIn (stage h w planes n)) × (length f32 ≡ length f32₀) × (length u8 ≡ length u8₀)
+    Going 3 by-three height width planes₀ (stage h w planes n) × (b ≡ boundsIn (stage h w planes n)) × (length f32 ≡ length f32₀) × (length u8 ≡ length u8₀)
 
 abbrev μ-loop : tie.MeasureT-loop
 μ-loop height width planes₀ f32₀ u8₀ h₀ w₀ b₀ n₀ planes f32 u8 h w b n = h
@@ -48,7 +44,7 @@ goes-on : (c : tie.Else2 Inv-loop μ-loop) → small (here (at-narrow (c .before
 goes-on c = sym (c .before .small .ensures) ∙ c .if2 .left
 
 loop-holds : tie.Need-loop-holds Inv-loop μ-loop
-loop-holds c = let ask = c .before .before .before .pre .0 in (going-first 3 two (ask .0), ask .1, refl, refl)
+loop-holds c = let ask = c .before .before .before .pre .0 in (going-first 3 by-three (ask .0), ask .1, refl, refl)
 
 thin-requires : tie.Need-thin-requires Inv-loop μ-loop
 thin-requires c κs =
@@ -81,13 +77,13 @@ same-length-3 c = search needs
 returns : tie.Need-returns Inv-loop μ-loop
 returns c =
     let m = at-narrow (c .before) in
-    narrows-small 3 two (m .before .before .before .before .before .loop .inv .0) (is-thin m) (sym (c .before .small .ensures) ∙ c .if2 .taken) (m .narrow .ensures .0)
+    narrows-small 3 by-three (m .before .before .before .before .before .loop .inv .0) (is-thin m) (sym (c .before .small .ensures) ∙ c .if2 .taken) (m .narrow .ensures .0)
 
 look-requires : tie.Need-look-requires Inv-loop μ-loop
 look-requires c κs =
     let other = c .before .before .before in
     let m = at-narrow (other .before) in
-    let next-is = sound-next 3 two (sound m) (goes-on other) in
+    let next-is = sound-next 3 by-three (sound m) (goes-on other) in
     let inv = m .before .before .before .before .before .loop .inv in
     let ask = m .before .before .before .before .before .before .before .before .before .pre .1 in
     (rw (m .narrow .ensures .0) (fit-lower leastPlaneSide (omega arith) (next-is .fit)), (omega (arith, next-is .area, inv .2, ask .0), omega (arith, next-is .area, inv .3, ask .1)))
@@ -101,7 +97,7 @@ loop-again c =
     let m = at-narrow (other .before) in
     let inv = m .before .before .before .before .before .loop .inv in
     let e = m .narrow .ensures .0 in
-    (rw e (going-on 3 two (inv .0) (is-thin m) (goes-on other)), c .before .before .before .before .look .ensures .bounds-are, omega (arith, inv .2), omega (arith, inv .3))
+    (rw e (going-on 3 by-three (inv .0) (is-thin m) (goes-on other)), c .before .before .before .before .look .ensures .bounds-are, omega (arith, inv .2), omega (arith, inv .3))
 
 same-length-4 : tie.Need-same-length-4 Inv-loop μ-loop
 same-length-4 c = search needs
@@ -113,7 +109,7 @@ same-length-6 : tie.Need-same-length-6 Inv-loop μ-loop
 same-length-6 c = search needs
 
 returns-2 : tie.Need-returns-2 Inv-loop μ-loop
-returns-2 c = let inv = c .before .before .loop .inv in narrows-end 3 two (inv .0) (inv .1) (sym (c .before .thin .ensures) ∙ c .if1 .left)
+returns-2 c = let inv = c .before .before .loop .inv in narrows-end 3 by-three (inv .0) (inv .1) (sym (c .before .thin .ensures) ∙ c .if1 .left)
 
 pub narrow-on-spec : {M : Type 1} → statement M
 narrow-on-spec =

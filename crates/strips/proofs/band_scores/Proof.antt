@@ -56,7 +56,7 @@ sweep-scores-requires c κs =
       omega arith,
       omega arith,
       simp length-take (omega (arith, u .len)),
-      turned-marks u (omega arith) (omega (arith, u .len)) (p .5),
+      turned-marks u (omega (arith, u .len)) (p .5),
     )
 
 same-length : tie.Need-same-length
