@@ -1,5 +1,5 @@
--- The packed planes of a screen: how many values they are, the plane, the row and the column of each, the same row by row, and that they are units if
--- the screen's points are. Assumes nothing.
+-- The packed planes of a screen: how many values they are, the plane, the row and the column of each, the same row by
+-- row, and that they are units if the screen's points are. Assumes nothing.
 use Prim.Native.Nat.{ℕ, _*_, _/_, _%_, _<_}
 use mathlib.Core.Path.{_≡_, ap, sym, _∙_}
 use mathlib.Core.Bool.{true}
@@ -9,7 +9,7 @@ use lib.Arith.{digits-div, digits-mod, mod-mul}
 use lib.Ieee.{Float, nan}
 use lib.ListN.{length}
 use Rattle.lists.specs.Tab.{grid}
-use Rattle.lists.proofs.Fill.{length-tabFrom, getD-tab, tab-same}
+use Rattle.lists.proofs.Tab.{length-tabFrom, getD-tab, tab-same}
 use Rattle.lists.proofs.Grid.{row-column}
 use Rattle.binary32.specs.Binary32.{unit}
 use Rattle.board.specs.Planes.{allUnits}
@@ -30,7 +30,8 @@ pointAt s q = s .px (q / (s .height * s .width)) (q % (s .height * s .width) / s
 pub length-packed : (s : Screen) → length (packed s) ≡ 3 * (s .height * s .width)
 length-packed s = length-tabFrom 0 (3 * (s .height * s .width)) (pointAt s)
 
-pub packed-units : (s : Screen) → ((k i j : ℕ) → k < 3 → i < s .height → j < s .width → unit (s .px k i j) ≡ true) → allUnits (packed s) ≡ true
+pub packed-units : (s : Screen) → ((k i j : ℕ) → k < 3 → i < s .height → j < s .width → unit (s .px k i j) ≡ true)
+    → allUnits (packed s) ≡ true
 packed-units s u =
     units-all (packed s)
     (λ q b.

@@ -13,7 +13,7 @@ use lib.ListN.{length, getD}
 use Rattle.lists.specs.Tab.{tab, grid}
 use Rattle.lists.specs.Picture.{bit}
 use Rattle.lists.proofs.Count.{count-append, count-le}
-use Rattle.lists.proofs.Fill.{length-tabFrom, getD-tab, tab-same}
+use Rattle.lists.proofs.Tab.{length-tabFrom, getD-tab, tab-same}
 use Rattle.lists.proofs.Grid.{row-column, tab-more, grid-more}
 use Rattle.binary32.proofs.Plain.{Plain, bits-plain, at-most-bits}
 use Rattle.binary32.proofs.Share.{share-below}

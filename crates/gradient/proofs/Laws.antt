@@ -8,7 +8,7 @@ use native.Mathlib.Omega.{arith}
 use lib.Ieee.{Float, nan, binary32}
 use lib.Ieee.Fits.{add-fits}
 use lib.ListN.{length, getD}
-use Rattle.lists.proofs.Fill.{getD-tab, length-tabFrom}
+use Rattle.lists.proofs.Tab.{getD-tab, length-tabFrom}
 use Rattle.lists.proofs.Grid.{row-column}
 use Rattle.binary32.specs.Binary32.{magnitude}
 use Rattle.binary32.proofs.Plain.{Plain, plain-of, plain-magnitude, plain-larger}

@@ -12,6 +12,7 @@ use lib.Dec.{eqb, ltb}
 use lib.ListN.{length, take, drop}
 use lib.Seq.{getD-take}
 use Rattle.lists.proofs.Part.{drop-take}
+use Rattle.board.proofs.Sides.{and-false}
 use Rattle.header.specs.Header.{sidesLine, begins, isDigit, digitCount, digitsEnd, fourAtMost, valueAt, numbersAt, headerOf}
 use Rattle.header.proofs.Numbers.{four-facts, first-bad, second-bad, both-good}
 
@@ -52,11 +53,7 @@ ends-front bytes m from h =
 -- more than four
 four-long : (bytes : List ℕ) (from end mark : ℕ) → from + 4 < end → fourAtMost bytes from end mark ≡ false
 unfolding fourAtMost
-four-long bytes from end mark l = rw (lt-leb end (from + 4) l) (go (ltb from end))
-  where
-    go : (t : Bool) → t && false ≡ false
-    go true = refl
-    go false = refl
+four-long bytes from end mark l = rw (lt-leb end (from + 4) l) (and-false (ltb from end))
 
 four-front : (bytes : List ℕ) (m from end mark : ℕ) → end < m → fourAtMost (take m bytes) from end mark ≡ fourAtMost bytes from end mark
 unfolding fourAtMost

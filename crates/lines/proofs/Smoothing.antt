@@ -11,7 +11,7 @@ use lib.ListN.{length, getD, take, drop}
 use lib.Seq.{set-getD}
 use Rattle.lists.specs.Front.{AtFront}
 use Rattle.lists.specs.Tab.{tab}
-use Rattle.lists.proofs.Fill.{length-tabFrom, getD-tab}
+use Rattle.lists.proofs.Tab.{length-tabFrom, getD-tab}
 use Rattle.lists.proofs.Front.{front-none, front-more, front-part, front-fits, front-within, front-beyond, front-over}
 use Rattle.lines.specs.Lines.{largest, entriesBefore, entriesBehind, smoothed, smooth}
 use Rattle.lines.proofs.Windows.{largest-at, largest-le, largest-take, largest-drop}
@@ -63,7 +63,8 @@ length-smooth s = length-tabFrom 0 (length s) (smoothed s)
 smoothed-le : (s : List ℕ) (i : ℕ) → smoothed s i ≤ largest s
 smoothed-le s i = go (ltb i 4 || leb (length s) (i + 4))
   where
-    go : (t : Bool) → cond t (getD s i 0) (max (getD s i 0) (min (largest (entriesBefore 4 s i)) (largest (entriesBehind 4 s i)))) ≤ largest s
+    go : (t : Bool)
+        → cond t (getD s i 0) (max (getD s i 0) (min (largest (entriesBefore 4 s i)) (largest (entriesBehind 4 s i)))) ≤ largest s
     go true = largest-at s i
     go false = omega (arith, largest-at s i, largest-take 4 (drop (i + 1) s), largest-drop (i + 1) s)
 

@@ -1,4 +1,5 @@
--- A list at the front of a slice, or from a place on: how it is written entry by entry or part by part, and what is read back. Assumes nothing.
+-- A list at the front of a slice, or from a place on: how it is written entry by entry or part by part, and what is
+-- read back. Assumes nothing.
 use Prim.Native.Nat.{ℕ, _+_, _-_, _*_, _≤_, _<_}
 use mathlib.Core.Path.{_≡_, refl, sym, ap, _∙_}
 use mathlib.Core.List.{List, [], _∷_, _++_, append-nil, append-assoc}
@@ -6,11 +7,12 @@ use native.Mathlib.Nat.{add-zero, add-mul, one-mul, not-suc-le-zero, le-of-suc-l
 use native.Mathlib.Numerals.{add-one}
 use native.Mathlib.Omega.{arith}
 use lib.ListN.{length, take, drop, getD, set, length-set, length-append, length-drop, take-append-drop, List·getD-append}
-use lib.Seq.{take-at, drop-at, drop-drop, drop-length, drop-append-le, take-append-le, length-take-le, set-split, getD-append-add, getD-drop}
+use lib.Seq.{take-at, take-append-le, length-take-le, drop-at, drop-drop, drop-length, drop-append-le}
+use lib.Seq.{set-split, getD-append-add, getD-drop}
 use borrow.Rule.Slice.PartMut.{midOf, putMid, same-len-mid}
 use Rattle.lists.specs.Front.{AtFront, Placed}
 use Rattle.lists.specs.Tab.{tab, grid}
-use Rattle.lists.proofs.Fill.{length-tabFrom, tab-same, tab-add}
+use Rattle.lists.proofs.Tab.{length-tabFrom, tab-same, tab-add}
 use Rattle.lists.proofs.Grid.{tab-more, grid-more}
 use Rattle.lists.proofs.Part.{mid-rest, put-rest}
 
@@ -109,7 +111,8 @@ module _ {A : Type 0} where
   placed-part a k s last n l = record { len = same-len-mid a k s last (l ∙ sym n); is = rw (l, drop-drop) }
 
   -- one list behind another
-  pub placed-join : {a b : List A} {at k : ℕ} {lent mid out : List A} → Placed a at lent mid → Placed b k mid out → k ≡ at + length a → k ≤ length lent
+  pub placed-join : {a b : List A} {at k : ℕ} {lent mid out : List A} → Placed a at lent mid → Placed b k mid out → k ≡ at + length a
+      → k ≤ length lent
       → Placed (a ++ b) at lent out
   placed-join {a} {b} {at} {k} {lent} {mid} {out} x y s h =
       let t : length (take at lent) ≡ at = length-take-le at lent (omega arith) in
@@ -122,7 +125,8 @@ module _ {A : Type 0} where
       record { len = y .len ∙ x .len; is = y .is ∙ rw (front, back, append-assoc, append-assoc) }
 
   -- what was written up to the place goes on
-  pub placed-front : {text list : List A} {at : ℕ} {lent before after : List A} → AtFront text lent before → length text ≡ at → Placed list at before after
+  pub placed-front : {text list : List A} {at : ℕ} {lent before after : List A} → AtFront text lent before → length text ≡ at
+      → Placed list at before after
       → AtFront (text ++ list) lent after
   placed-front {text} {list} {at} {lent} {before} {after} h l x =
       record {
@@ -132,7 +136,8 @@ module _ {A : Type 0} where
       }
 
   -- by a rule: the loops that fill a slice from a place on
-  pub placed-more : (value : ℕ → A) (n : ℕ) {at : ℕ} {lent out : List A} {v : A} → Placed (tab n value) at lent out → at + n < length lent → v ≡ value n
+  pub placed-more : (value : ℕ → A) (n : ℕ) {at : ℕ} {lent out : List A} {v : A} → Placed (tab n value) at lent out → at + n < length lent
+      → v ≡ value n
       → Placed (tab (n + 1) value) at lent (set out (at + n) v)
   placed-more value n {at} {lent} {out} {v} x b e =
       let l : length (tab n value) ≡ n = length-tabFrom 0 n value in
@@ -154,6 +159,7 @@ module _ {A : Type 0} where
   placed-start {list} x = let n : 0 + length list ≡ length list = omega arith in record { len = x .len; is = rw n at (x .is) }
 
   -- a grid by its rows
-  pub front-row : (f : ℕ → ℕ → A) (i columns : ℕ) {lent mid out : List A} → AtFront (grid i columns f) lent mid → Placed (tab columns (f i)) (i * columns) mid out
+  pub front-row : (f : ℕ → ℕ → A) (i columns : ℕ) {lent mid out : List A} → AtFront (grid i columns f) lent mid
+      → Placed (tab columns (f i)) (i * columns) mid out
       → AtFront (grid (i + 1) columns f) lent out
   front-row f i columns h x = rw (grid-more i columns f) (placed-front h (length-tabFrom 0 (i * columns) _) x)

@@ -6,7 +6,7 @@ use native.Mathlib.Nat.{div-lt-iff-lt-mul, mod-lt, mul-zero, add-zero, add-mul, 
 use native.Mathlib.Omega.{arith}
 use lib.Arith.{digits-div, digits-mod}
 use Rattle.lists.specs.Tab.{tab, grid}
-use Rattle.lists.proofs.Fill.{tab-same, tab-add}
+use Rattle.lists.proofs.Tab.{tab-same, tab-add}
 
 -- the row and the column of a place
 pub row-column : (rows columns k : ℕ) → k < rows * columns → (k / columns < rows) × (k % columns < columns)

@@ -1,4 +1,5 @@
--- Parts of lists: a list's front by a rule, a list of one value, a part behind a cut, and a part that is lent and comes back. Assumes nothing.
+-- Parts of lists: a list's front by a rule, a list of one value, a part behind a cut, and a part that is lent and
+-- comes back. Assumes nothing.
 use Prim.Native.Nat.{ℕ, zero, suc, _-_, _≤_}
 use mathlib.Core.Path.{_≡_, refl, sym, ap, _∙_}
 use mathlib.Core.List.{List, [], _∷_, _++_, append-nil}
@@ -8,7 +9,7 @@ use lib.ListN.{length, take, drop, getD, replicate, length-drop, drop-of-length-
 use lib.Seq.{take-all, take-nil}
 use borrow.Rule.Slice.PartMut.{midOf, putMid}
 use Rattle.lists.specs.Tab.{tab}
-use Rattle.lists.proofs.Fill.{tabFrom-shift}
+use Rattle.lists.proofs.Tab.{tabFrom-shift}
 
 module _ {A : Type 0} where
   -- the front of a list is the list of its entries

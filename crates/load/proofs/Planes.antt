@@ -12,7 +12,7 @@ use lib.ListN.{length, set, getD, drop, length-append, length-drop, length-set}
 use lib.Seq.{getD-set-same, getD-set-other, ext-getD}
 use Rattle.lists.specs.Front.{AtFront}
 use Rattle.lists.specs.Tab.{grid}
-use Rattle.lists.proofs.Fill.{length-tabFrom, getD-tab}
+use Rattle.lists.proofs.Tab.{length-tabFrom, getD-tab}
 use Rattle.lists.proofs.Front.{front-by, front-within, front-beyond}
 use Rattle.lists.proofs.Grid.{row-column}
 

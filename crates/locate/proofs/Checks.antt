@@ -15,7 +15,8 @@ use Rattle.locate.specs.Locate.{Lent, lent, slicesShort, checked}
 use Rattle.locate.specs.Steps.{NoneShort}
 
 -- the planes play no part in whether another slice is short
-pub short-same : (h w : ℕ) (s : Lent) → slicesShort h w (lent [] (s .edges) (s .scores) (s .scratch-f32) (s .scratch-u8) (s .scratch-u32)) ≡ slicesShort h w s
+pub short-same : (h w : ℕ) (s : Lent)
+    → slicesShort h w (lent [] (s .edges) (s .scores) (s .scratch-f32) (s .scratch-u8) (s .scratch-u32)) ≡ slicesShort h w s
 unfolding slicesShort
 short-same h w s = refl
 
@@ -35,7 +36,8 @@ none-short h w s e =
     }
 
 -- all is fit for the work
-pub fit : (b : Board) (s : Lent) → checked b s ≡ 0 → FitPlanes leastSide (b .height) (b .width) (s .planes) × NoneShort (b .height) (b .width) s
+pub fit : (b : Board) (s : Lent) → checked b s ≡ 0
+    → FitPlanes leastSide (b .height) (b .width) (s .planes) × NoneShort (b .height) (b .width) s
 fit b s e =
     let f = planes-fit leastSide (b .height) (b .width) (s .planes) (slicesShort (b .height) (b .width) s) e in
     (f .0, none-short (b .height) (b .width) s (f .1))

@@ -35,7 +35,8 @@ module _ (g : Reference) (s : Scored g) where
   rows-long = rw (s .rows-are) (length-scores _ _ _ _ _ ∙ count-is (g .bounds .«r_1») (g .bounds .«r_2»))
 
   columns-fit : InLimits (g .columns)
-  columns-fit = rw (s .columns-are) (scores-fit (g .picture) _ _ _ _ (s .columns-wide) (omega (arith, s .columns-end)) (omega (arith, s .rows-end)))
+  columns-fit =
+      rw (s .columns-are) (scores-fit (g .picture) _ _ _ _ (s .columns-wide) (omega (arith, s .columns-end)) (omega (arith, s .rows-end)))
 
   rows-fit : InLimits (g .rows)
   rows-fit = rw (s .rows-are) (scores-fit _ _ _ _ _ (s .rows-wide) (omega (arith, s .rows-end)) (omega (arith, s .columns-end)))
@@ -46,7 +47,8 @@ module _ (g : Reference) (s : Scored g) where
     across-entry i l = front-within 0 i x (simp length-append (omega arith)) ∙ List·getD-append (g .columns) (g .rows) 0 i l
 
     down-entry : (i : ℕ) → i < length (g .rows) → getD after (length (g .columns) + i) 0 ≡ getD (g .rows) i 0
-    down-entry i l = front-within 0 (length (g .columns) + i) x (simp length-append (omega arith)) ∙ getD-append-add (g .columns) (g .rows) i 0
+    down-entry i l =
+        front-within 0 (length (g .columns) + i) x (simp length-append (omega arith)) ∙ getD-append-add (g .columns) (g .rows) i 0
 
     pub optimal : (b : Board) (n q offset count voted q' offset' count' voted' : ℕ) → quartersOf (g .columns) ≡ Read q offset count voted
         → quartersOf (g .rows) ≡ Read q' offset' count' voted'
@@ -64,14 +66,17 @@ module _ (g : Reference) (s : Scored g) where
         }
 
     -- by the readings: the answer is 0 only where both were accepted
-    pub optimal-by : (b : Board) (n : ℕ) (columns rows : Quarters) → quartersOf (g .columns) ≡ columns → quartersOf (g .rows) ≡ rows → Fits32 columns
+    pub optimal-by : (b : Board) (n : ℕ) (columns rows : Quarters) → quartersOf (g .columns) ≡ columns → quartersOf (g .rows) ≡ rows
+        → Fits32 columns
         → joined b n (g .bounds) columns rows .answer ≡ 0 → Optimal g (joined b n (g .bounds) columns rows) after
     optimal-by b n (Refused k) rows e f t z = absurd (omega (arith, t .0))
     optimal-by b n (Read q offset count voted) (Refused k) e f t z = absurd (omega arith)
-    optimal-by b n (Read q offset count voted) (Read q' offset' count' voted') e f t z = optimal b n q offset count voted q' offset' count' voted' e f
+    optimal-by b n (Read q offset count voted) (Read q' offset' count' voted') e f t z =
+        optimal b n q offset count voted q' offset' count' voted' e f
 
 -- what locating hands back where the checks passed and the answer is 0
-found-optimal : (b : Board) (g : Reference) (before after : List ℕ) → (g .last .tooSmall ≡ false → Scored g) → AtFront (scoresOf g) before after
+found-optimal : (b : Board) (g : Reference) (before after : List ℕ) → (g .last .tooSmall ≡ false → Scored g)
+    → AtFront (scoresOf g) before after
     → found b g .answer ≡ 0 → Optimal g (found b g) after
 found-optimal b g before after s x z = go (g .last .tooSmall) refl x z
   where
@@ -102,7 +107,10 @@ promised b before r after g = go (passes b before) refl (g .located-is) (g .scor
         let f = fit b before z .0 in
         let s : ref .last .tooSmall ≡ false → Scored ref =
         λ q. scored (b .height) (b .width) (before .planes) f (rw (last-is (b .height) (b .width) (before .planes)) at q) in
-        record { answered = (λ a. (z, rw p at a), λ y a. rw p a); optimal = λ a. rw p (found-optimal b ref (before .scores) (after .scores) s x (rw p at a)) }
+        record {
+          answered = (λ a. (z, rw p at a), λ y a. rw p a);
+          optimal = λ a. rw p (found-optimal b ref (before .scores) (after .scores) s x (rw p at a));
+        }
     go false e p x =
         let n = eqb-false (checked b before) 0 e in
         record { answered = (λ a. absurd (n (rw p at a)), λ y a. absurd (n y)); optimal = λ a. absurd (n (rw p at a)) }

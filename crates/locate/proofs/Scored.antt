@@ -1,5 +1,5 @@
--- The reference of a call whose loop of narrowings ended well: its bounds are wide and lie inside the pictures, and its lists are the bounds' scores.
--- Assumes nothing.
+-- The reference of a call whose loop of narrowings ended well: its bounds are wide and lie inside the pictures, and
+-- its lists are the bounds' scores. Assumes nothing.
 use Prim.Native.Nat.{ℕ, _+_, _-_, _≤_}
 use mathlib.Core.Path.{_≡_, refl}
 use mathlib.Core.Bool.{false}

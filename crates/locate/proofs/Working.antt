@@ -28,7 +28,8 @@ use Rattle.locate.specs.Steps.{NoneShort, Leads, ReadsFrom, Works}
 use Rattle.locate.proofs.Promises.{promised}
 use Rattle.locate.proofs.Scored.{sound, not-thin}
 
-module _ (b : Board) (before : Lent) (f : FitPlanes leastSide (b .height) (b .width) (before .planes)) (room : NoneShort (b .height) (b .width) before)
+module _ (b : Board) (before : Lent) (f : FitPlanes leastSide (b .height) (b .width) (before .planes))
+    (room : NoneShort (b .height) (b .width) before)
     {l : Narrowed} {start : Bounds} {planes' : List Float} {edges' : List ℕ}
     (looks : Looks (first (b .height) (b .width) (before .planes)) (before .edges) start edges')
     (narrows : Narrows (lastOf 3 (b .height) (b .width) (before .planes)) l planes') where
@@ -53,7 +54,8 @@ module _ (b : Board) (before : Lent) (f : FitPlanes leastSide (b .height) (b .wi
   edges-left = looks .bytes-are
 
   -- the screen got too small
-  pub works-small : {r : Located} (f32 : List Float) (u8 u32 : List ℕ) → l .small ≡ true → r ≡ declined (resized b (l .height) (l .width)) 5 (l .narrowed)
+  pub works-small : {r : Located} (f32 : List Float) (u8 u32 : List ℕ) → l .small ≡ true
+      → r ≡ declined (resized b (l .height) (l .width)) 5 (l .narrowed)
       → Works b before r (lent planes' edges' (before .scores) f32 u8 u32)
   unfolding referenceOf
   works-small f32 u8 u32 ok e =
@@ -96,11 +98,17 @@ module _ (b : Board) (before : Lent) (f : FitPlanes leastSide (b .height) (b .wi
         }
 
     pub works-read : {r : Located} {scores' : List ℕ} (f32 : List Float) (u8 u32 : List ℕ)
-        → ReadsFrom b l (take ((h - 2) * (w - 2)) edges') (before .scores) r scores' → Works b before r (lent planes' edges' scores' f32 u8 u32)
+        → ReadsFrom b l (take ((h - 2) * (w - 2)) edges') (before .scores) r scores'
+        → Works b before r (lent planes' edges' scores' f32 u8 u32)
     unfolding referenceOf
     works-read {r} {scores'} f32 u8 u32 e =
         let is = rw (picture-is, narrows .height-is, narrows .width-is, narrows .narrowed-is, narrows .bounds-are ok) at e in
-        record { located-is = rw large (is .located-is); planes-are = planes-left; edges-are = edges-left; scores-are = rw large (is .scores-are) }
+        record {
+          located-is = rw large (is .located-is);
+          planes-are = planes-left;
+          edges-are = edges-left;
+          scores-are = rw large (is .scores-are);
+        }
 
 -- ---- the call: a refusal by the checks, or the work, each with the promise
 

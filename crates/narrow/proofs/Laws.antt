@@ -8,7 +8,7 @@ use native.Mathlib.Omega.{arith}
 use lib.Ieee.{Float, nan, binary32, ofBits, toBits}
 use lib.ListN.{length, take, replicate, length-append, length-drop, length-replicate}
 use lib.Seq.{take-at}
-use Rattle.lists.proofs.Fill.{length-tabFrom, getD-tab}
+use Rattle.lists.proofs.Tab.{length-tabFrom, getD-tab}
 use Rattle.lists.proofs.Grid.{row-column}
 use Rattle.rank.proofs.Members.{entry-has}
 use Rattle.board.specs.Screen.{packed, view}

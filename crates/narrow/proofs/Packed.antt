@@ -8,7 +8,7 @@ use lib.ListN.{length}
 use borrow.Rule.Slice.PartMut.{midOf, putMid}
 use Rattle.lists.specs.Front.{AtFront}
 use Rattle.lists.specs.Tab.{grid}
-use Rattle.lists.proofs.Fill.{length-tabFrom}
+use Rattle.lists.proofs.Tab.{length-tabFrom}
 use Rattle.lists.proofs.Front.{front-behind}
 use Rattle.lists.proofs.Grid.{row-fits, grid-more}
 use Rattle.board.specs.Screen.{Screen}

@@ -17,7 +17,8 @@ module _ (h w : ℕ) (planes : List Float) where
   pub gradients-in : {before after : List Float} → AtFront (gradients h w planes) before after → (h - 2) * (w - 2) ≤ length after
   gradients-in x = omega (arith, front-fits x, length-gradients h w planes)
 
-  pub gradients-part : {before after : List Float} → AtFront (gradients h w planes) before after → take ((h - 2) * (w - 2)) after ≡ gradients h w planes
+  pub gradients-part : {before after : List Float} → AtFront (gradients h w planes) before after
+      → take ((h - 2) * (w - 2)) after ≡ gradients h w planes
   gradients-part x = front-part ((h - 2) * (w - 2)) (length-gradients h w planes) x
 
   pub edges-in : {before after : List ℕ} → AtFront (edges h w planes) before after → (h - 2) * (w - 2) ≤ length after

@@ -1,5 +1,5 @@
--- What loading leaves of a screen of the program, in planes of its size: fit planes and a fresh record, or a refusal. Nothing else here speaks of
--- loading's contract. Assumes nothing.
+-- What loading leaves of a screen of the program, in planes of its size: fit planes and a fresh record, or a refusal.
+-- Nothing else here speaks of loading's contract. Assumes nothing.
 use Prim.Native.Nat.{ℕ, _*_, _<_}
 use mathlib.Core.Path.{_≡_, sym, _∙_}
 use mathlib.Core.List.{List}

@@ -12,7 +12,7 @@ use lib.Dec.{eqb, ltb}
 use lib.Ieee.{Float}
 use lib.ListN.{length, take, drop, length-take}
 use lib.Seq.{getD-take}
-use Rattle.lists.proofs.Fill.{tab-same}
+use Rattle.lists.proofs.Tab.{tab-same}
 use Rattle.lists.proofs.Part.{drop-take}
 use Rattle.board.specs.Board.{fresh}
 use Rattle.board.specs.Screen.{packed}

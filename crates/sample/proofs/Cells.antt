@@ -7,7 +7,7 @@ use lib.Arith.{digits-lt}
 use lib.Ieee.{Float, nan}
 use lib.ListN.{length, getD}
 use Rattle.lists.specs.Tab.{tab, grid}
-use Rattle.lists.proofs.Fill.{tab-same}
+use Rattle.lists.proofs.Tab.{tab-same}
 use Rattle.lists.proofs.Grid.{row-column, row-fits}
 use Rattle.board.specs.declared.Board.{Board}
 use Rattle.board.specs.Screen.{view}

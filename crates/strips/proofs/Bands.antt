@@ -8,7 +8,7 @@ use borrow.Rule.Slice.PartMut.{midOf, putMid}
 use lib.ListN.{length}
 use Rattle.lists.specs.Front.{AtFront}
 use Rattle.lists.specs.Tab.{tab}
-use Rattle.lists.proofs.Fill.{length-tabFrom, tab-same, tab-add}
+use Rattle.lists.proofs.Tab.{length-tabFrom, tab-same, tab-add}
 use Rattle.lists.proofs.Front.{placed-front, placed-part}
 
 -- a band of m strips from strip i on lies within the picture, and its scratch within the scratch, if those of all n strips do

@@ -8,13 +8,13 @@ use lib.Ieee.{nan}
 use lib.ListN.{length-set}
 use Rattle.load.specs.Load.{mostByte}
 use Rattle.load.proofs.Planes.{Laid, laid-none, laid-more, laid-all}
-use Rattle.load.proofs.Shown.{valueAt, value-is}
+use Rattle.load.proofs.Shown.{shownAt, value-is}
 use borrow.Author.Needs.{needs}
 use Rattle.load.proofs.load_planes.Statement.{statement}
 use Rattle.load.proofs.load_planes.Tie as tie
 
 abbrev Inv-loop : tie.InvT-loop
-Inv-loop height width pixels planes₀ n i₀ planes i = (i ≤ n) × Laid nan (valueAt mostByte height width pixels) n i planes₀ planes
+Inv-loop height width pixels planes₀ n i₀ planes i = (i ≤ n) × Laid nan (shownAt mostByte height width pixels) n i planes₀ planes
 
 abbrev μ-loop : tie.MeasureT-loop
 μ-loop height width pixels planes₀ n i₀ planes i = n - i

@@ -59,7 +59,9 @@ same-length-6 : tie.Need-same-length-6
 same-length-6 c = search needs
 
 returns : tie.Need-returns
-returns c = let at = c .before .before in refuses (board at) (slices at) _ (at .check .ensures) (c .before .if1 .taken) (c .declined .ensures)
+returns c =
+    let at = c .before .before in
+    refuses (board at) (slices at) _ (at .check .ensures) (c .before .if1 .taken) (c .declined .ensures)
 
 mul-n : tie.Need-mul-n
 mul-n c = omega (arith, fits (c .before) .sides .area)
@@ -74,19 +76,25 @@ slice-relend-prefix-work : tie.Need-slice-relend-prefix-work
 slice-relend-prefix-work c = omega (arith, room (c .before .before .before .before .before) .f32-in)
 
 slice-aggregate-work : tie.Need-slice-aggregate-work
-slice-aggregate-work c = sym (length-take-le _ _ (omega (arith, room (c .before .before .before .before .before .before) .f32-in)))
+slice-aggregate-work c =
+    let at = c .before .before .before .before .before .before in
+    sym (length-take-le _ _ (omega (arith, room at .f32-in)))
 
 slice-relend-prefix-work-2 : tie.Need-slice-relend-prefix-work-2
 slice-relend-prefix-work-2 c = omega (arith, room (c .before .before .before .before .before .before) .u8-in)
 
 slice-aggregate-work-2 : tie.Need-slice-aggregate-work-2
-slice-aggregate-work-2 c = sym (length-take-le _ _ (omega (arith, room (c .before .before .before .before .before .before .before) .u8-in)))
+slice-aggregate-work-2 c =
+    let at = c .before .before .before .before .before .before .before in
+    sym (length-take-le _ _ (omega (arith, room at .u8-in)))
 
 slice-relend-prefix-work-3 : tie.Need-slice-relend-prefix-work-3
 slice-relend-prefix-work-3 c = omega (arith, room (c .before .before .before .before .before .before .before) .u32-in)
 
 slice-aggregate-work-3 : tie.Need-slice-aggregate-work-3
-slice-aggregate-work-3 c = sym (length-take-le _ _ (omega (arith, room (c .before .before .before .before .before .before .before .before) .u32-in)))
+slice-aggregate-work-3 c =
+    let at = c .before .before .before .before .before .before .before .before in
+    sym (length-take-le _ _ (omega (arith, room at .u32-in)))
 
 work-requires : tie.Need-work-requires
 work-requires c κs =

@@ -38,4 +38,5 @@ module _ {A : Type 0} where
   tab-add (suc n) m f =
       let s : tab m (λ k. f (suc (n + k))) ≡ tab m (λ k. f (suc n + k)) =
       tab-same m (λ k. f (suc (n + k))) (λ k. f (suc n + k)) (λ k h. ap f (omega arith)) in
-      rw (suc-add n m) (ap (λ (t : List A). f 0 ∷ t) (tabFrom-shift 0 (n + m) f ∙ tab-add n m (λ k. f (suc k)) ∙ rw (tabFrom-shift 0 n f, s)))
+      rw (suc-add n m)
+      (ap (λ (t : List A). f 0 ∷ t) (tabFrom-shift 0 (n + m) f ∙ tab-add n m (λ k. f (suc k)) ∙ rw (tabFrom-shift 0 n f, s)))
