@@ -19,7 +19,7 @@ use Rattle.votes.proofs.Row.{votes-few}
 use Rattle.lines.specs.Lines.{linesOf, estimate}
 use Rattle.reading.specs.Reading.{remaining, quartersOf}
 use Rattle.reading.proofs.Laws.{by-outcome, readable-wins}
-use Rattle.axes.specs.Axes.{Short}
+use Rattle.axes.specs.Axes.{Fits32}
 
 -- a score list can be read
 pub scores-fit : (E : ℕ → ℕ → Bool) (from to c₁ c₂ : ℕ) → c₁ + 4 ≤ c₂ → c₂ ≤ 4095 → to ≤ 4096 → InLimits (scores E from to c₁ c₂)
@@ -32,9 +32,9 @@ scores-fit E from to c₁ c₂ span high most =
     }
 
 -- the numbers of a reading fit 32 bits
-pub quarters-short : (s : List ℕ) → InLimits s → Short (quartersOf s)
-quarters-short s f =
-    by-outcome Short s f (omega arith, omega arith) (omega arith, omega arith)
+pub quarters-fit : (s : List ℕ) → InLimits s → Fits32 (quartersOf s)
+quarters-fit s f =
+    by-outcome Fits32 s f (omega arith, omega arith) (omega arith, omega arith)
     (λ r.
     let w = readable-wins r in
     let e = estimate (linesOf s) in

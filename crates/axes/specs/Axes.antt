@@ -28,6 +28,6 @@ pub record ReadsAxes (E : ℕ → ℕ → Bool) (b : Bounds) (before : List ℕ)
   pub scores-are : AtFront (columnScores E b ++ rowScores E b) before after
 
 -- a reading whose numbers fit 32 bits; a refusal is 6 or 7
-abbrev pub Short : Quarters → Type 0
-Short (Read q offset count votes) = (q ≤ 800) × (votes ≤ 4194304)
-Short (Refused n) = (6 ≤ n) × (n ≤ 7)
+abbrev pub Fits32 : Quarters → Type 0
+Fits32 (Read q offset count votes) = (q ≤ 800) × (votes ≤ 4194304)
+Fits32 (Refused n) = (6 ≤ n) × (n ≤ 7)

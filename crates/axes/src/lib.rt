@@ -1,6 +1,6 @@
-// Both axes of an edge picture over some bounds: column scores, then row scores, in one slice (01, "Path scores"), and what each list reads as
-// (01, "Lines and votes"). Definitions: strips' columnScores and rowScores, reading's quartersOf; specs/Axes is for the code.
-// Laws for callers: proofs/Scoring.
+// Both axes of an edge picture over some bounds: column scores, then row scores, in one slice (01, "Path scores"), and
+// what each list reads as (01, "Lines and votes"). Definitions: strips' columnScores and rowScores, reading's
+// quartersOf; specs/Axes is for the code. Laws for callers: proofs/Scoring.
 ghost use mathlib.Core.List.{_++_};
 ghost use Prim.Native.Nat.{_+_, _-_, _*_, _≤_};
 ghost use lib.ListN.{length};

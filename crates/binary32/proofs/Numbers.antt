@@ -1,4 +1,5 @@
--- What is a number stays one: sums of finite values, magnitudes and larger ones are no NaN, and a magnitude has the sign bit clear. Assumes nothing.
+-- What is a number stays one: sums of finite values, magnitudes and larger ones are no NaN, and a magnitude has the
+-- sign bit clear. Assumes nothing.
 use Prim.Native.Nat.{ℕ, zero, suc, _+_, _-_, _*_, _^_}
 use mathlib.Core.Path.{_≡_}
 use mathlib.Core.Bool.{Bool, true, false, not, _&&_, cond, Bool·beq, false≢true}
@@ -41,7 +42,8 @@ add-number (fin s m e) (fin t n d) p q =
     at a b (Bool·beq s t) (ltb a b) (s && ltb b a)
   where
     at : (a b : ℕ) (z w u : Bool)
-        → let c = down e * down d in Number (cond z (round binary32 s (a + b) c) (cond w (round binary32 t (b - a) c) (round binary32 u (a - b) c)))
+        → let c = down e * down d in
+        Number (cond z (round binary32 s (a + b) c) (cond w (round binary32 t (b - a) c) (round binary32 u (a - b) c)))
     at a b true w u = number-round s (a + b) (down e * down d)
     at a b false true u = number-round t (b - a) (down e * down d)
     at a b false false u = number-round u (a - b) (down e * down d)

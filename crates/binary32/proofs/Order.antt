@@ -1,9 +1,10 @@
 -- The order of the binary32 values that are not negative is the order of their bits. Assumes nothing.
-use Prim.Native.Nat.{ℕ, zero, suc, _+_, _-_, _*_, _/_, _%_, _^_, _≤_, _<_}
+use Prim.Native.Nat.{ℕ, zero, suc, _+_, _*_, _/_, _%_, _^_, _≤_, _<_}
 use mathlib.Core.Path.{_≡_, refl, sym}
-use mathlib.Core.Logic.{_⊎_, ⊎-elim}
+use mathlib.Core.Logic.{⊎-elim}
 use mathlib.Core.Bool.{Bool, true, false, _&&_, _||_, cond, true≢false}
-use native.Mathlib.Nat.{mul-one, mul-le-mul-left, mul-le-mul-right, mul-lt-mul-of-pos-right, lt-of-lt-of-le, le-of-lt, eq-or-lt-of-le, mod-eq-of-lt, pow-suc, le-of-mul-le-mul-right, not-le-of-lt, lt-of-not-le}
+use native.Mathlib.Nat.{mul-one, mul-le-mul-left, mul-le-mul-right, mul-lt-mul-of-pos-right, lt-of-lt-of-le, le-of-lt}
+use native.Mathlib.Nat.{eq-or-lt-of-le, mod-eq-of-lt, pow-suc, le-of-mul-le-mul-right, not-le-of-lt, lt-of-not-le}
 use native.Mathlib.Omega.{arith}
 use borrow.Author.Tests.{lt-leb, le-leb, ltb-true, ne-eqb, leb-true, leb-false}
 use lib.Dec.{T, ltb, leb, eqb, eqb→eq}
@@ -51,7 +52,8 @@ digits (suc x) t u h = mul-lt-mul-of-pos-right (omega arith) (pow-pos x)
 
 field : (x y t u : ℕ) → x < y → t < 8388608 → dig x t < dig y u
 field x zero t u h k = absurd (omega arith)
-field x (suc y) t u h k = lt-of-lt-of-le (under x t k) (omega (arith, over y u, mul-le-mul-left 8388608 (pow-mono {i = x} {j = y} (omega arith))))
+field x (suc y) t u h k =
+    lt-of-lt-of-le (under x t k) (omega (arith, over y u, mul-le-mul-left 8388608 (pow-mono {i = x} {j = y} (omega arith))))
 
 val-lt : (b c : ℕ) → b < c → val b < val c
 val-lt b c h =
@@ -80,11 +82,12 @@ le-back (fin false m e) (inf s) a b d D p q h = absurd q
 le-back (fin false m e) (fin true n f) a b d D p q h = absurd (true≢false (q .0))
 le-back (fin false m e) (fin false n f) a b d D p q h =
     let l = or-le (m * up e * down f) (n * up f * down e) _ h in
-    le-of-mul-le-mul-right (transfer a b d d (m * up e) (n * up f) (down e) (down f) (down-pos e) (down-pos f) (sym (p .1)) (sym (q .1)) l) D
+    le-of-mul-le-mul-right
+    (transfer a b d d (m * up e) (n * up f) (down e) (down f) (down-pos e) (down-pos f) (sym (p .1)) (sym (q .1)) l) D
 
-is-t : (s : Bool) → T s → s ≡ true
-is-t true h = refl
-is-t false h = absurd h
+pub is-true : (s : Bool) → T s → s ≡ true
+is-true true h = refl
+is-true false h = absurd h
 
 is-f : (s : Bool) → (T s → ⊥) → s ≡ false
 is-f true h = absurd (h tt)
@@ -94,8 +97,13 @@ pub order : (b c : ℕ) → b < 2139095040 → c < 2139095040 → le (ofBits bin
 order b c h k = go (leb b c) refl
   where
     go : (s : Bool) → leb b c ≡ s → le (ofBits binary32 b) (ofBits binary32 c) ≡ s
-    go true e = is-t _ (le-of-values _ _ (val b) (2 ^ 149) (val c) (2 ^ 149) (pow-pos 149) (pow-pos 149) (has b h) (has c k) (mul-le-mul-right (2 ^ 149) (mono b c (leb-true b c e))))
-    go false e = is-f _ (λ t. not-le-of-lt (val-lt c b (leb-false b c e)) (le-back _ _ (val b) (val c) (2 ^ 149) (pow-pos 149) (has b h) (has c k) t))
+    go true e =
+        is-true _
+        (le-of-values _ _ (val b) (2 ^ 149) (val c) (2 ^ 149) (pow-pos 149) (pow-pos 149) (has b h) (has c k)
+        (mul-le-mul-right (2 ^ 149) (mono b c (leb-true b c e))))
+    go false e =
+        is-f _
+        (λ t. not-le-of-lt (val-lt c b (leb-false b c e)) (le-back _ _ (val b) (val c) (2 ^ 149) (pow-pos 149) (has b h) (has c k) t))
 
 -- ---- the same of values
 
@@ -120,13 +128,15 @@ high b m e l h q =
 
 pub finite-bits : (m : ℕ) (e : ℤ) → T (fits binary32 (fin false m e)) → toBits binary32 (fin false m e) < 2139095040
 finite-bits m e h =
-    lt-of-not-le (λ l. high (toBits binary32 (fin false m e)) m e l (magnitude-lt (fin false m e) h) (ofBits-toBits binary32 (fin false m e) h))
+    lt-of-not-le
+    (λ l. high (toBits binary32 (fin false m e)) m e l (magnitude-lt (fin false m e) h) (ofBits-toBits binary32 (fin false m e) h))
 
 bits-of-inf : toBits binary32 (inf false) ≡ 2139095040
 unfolding toBits
 bits-of-inf = refl
 
-pub order-of-bits : (x y : Float) → T (fits binary32 x) → T (fits binary32 y) → NonNegative x → NonNegative y → le x y ≡ leb (toBits binary32 x) (toBits binary32 y)
+pub order-of-bits : (x y : Float) → T (fits binary32 x) → T (fits binary32 y) → NonNegative x → NonNegative y
+    → le x y ≡ leb (toBits binary32 x) (toBits binary32 y)
 unfolding le
 order-of-bits nan y f g p q = absurd p
 order-of-bits (inf true) y f g p q = absurd p

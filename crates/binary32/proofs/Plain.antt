@@ -98,7 +98,8 @@ lt-le (fin false m e) (fin true n d) p q = absurd q
 lt-le (fin false m e) (fin false n d) p q = apart (m * up e * down d) (n * up d * down e)
 
 pub plain-below : {x y : Float} → Plain x → Plain y → lt x y ≡ ltb (toBits binary32 x) (toBits binary32 y)
-plain-below {x} {y} p q = lt-le x y (p .positive) (q .positive) ∙ ap not (plain-order q p) ∙ sym (not-leb (toBits binary32 x) (toBits binary32 y))
+plain-below {x} {y} p q =
+    lt-le x y (p .positive) (q .positive) ∙ ap not (plain-order q p) ∙ sym (not-leb (toBits binary32 x) (toBits binary32 y))
 
 pub above-bits : {x : Float} (b : ℕ) → Plain x → b ≤ 0x7F800000 → lt (ofBits binary32 b) x ≡ ltb b (toBits binary32 x)
 above-bits b p h = rw (bits-back b h) at (plain-below (plain-of b h) p)

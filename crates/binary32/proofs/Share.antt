@@ -1,5 +1,5 @@
--- A share of m worked out in binary32 and cut to a whole number is below m, where the exact share is at most m - 1/4: rounding keeps the order,
--- and m - 1/4 is itself a binary32. Assumes nothing.
+-- A share of m worked out in binary32 and cut to a whole number is below m, where the exact share is at most m - 1/4:
+-- rounding keeps the order, and m - 1/4 is itself a binary32. Assumes nothing.
 use Prim.Native.Nat.{ℕ, _-_, _*_, _/_, _^_, _≤_, _<_}
 use mathlib.Core.Path.{_≡_, refl, sym}
 use mathlib.Core.Bool.{true, false, true≢false}
@@ -31,7 +31,8 @@ cut-below (fin false k e) (inf s) m q v h l = absurd v
 cut-below (fin false k e) (fin true n d) m q v h l = absurd (true≢false (v .0))
 cut-below (fin false k e) (fin false n d) m q v h l =
     let o = or-le (k * up e * down d) (n * up d * down e) _ l in
-    let c : k * up e * 4 ≤ q * down e = transfer _ q _ 4 (k * up e) (n * up d) (down e) (down d) (down-pos e) (down-pos d) refl (sym (v .1)) o in
+    let c : k * up e * 4 ≤ q * down e =
+    transfer _ q _ 4 (k * up e) (n * up d) (down e) (down d) (down-pos e) (down-pos d) refl (sym (v .1)) o in
     let s : q * down e < 4 * m * down e = mul-lt-mul-of-pos-right h (down-pos e) in
     let b : k * up e / down e < m = div-lt-iff-lt-mul (down-pos e) .1 (omega (arith, mul-assoc 4 m (down e))) in
     omega arith
@@ -46,6 +47,7 @@ share-below x a b m v A B M l h =
     mul-at binary32 y x m 1 a b (positive-of-value y m 1 w M) (positive-of-value x a b v A) (lit< tt) B w v in
     rw (e, one-mul b)
     (cut-below (round binary32 false (m * a) b) (round binary32 false q 4) m q
-    (round-exact binary32 false q 4 q 147 (lit< tt) (omega arith) (lt-of-lt-of-le (shl-lt 24 147 (omega arith)) (lit≤ tt)) (sym (mul-assoc q (2 ^ 147) 4)))
+    (round-exact binary32 false q 4 q 147 (lit< tt) (omega arith)
+    (lt-of-lt-of-le (shl-lt 24 147 (omega arith)) (lit≤ tt)) (sym (mul-assoc q (2 ^ 147) 4)))
     (omega arith)
     (round-mono binary32 (m * a) b q 4 B (lit< tt) h))

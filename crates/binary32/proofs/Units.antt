@@ -1,4 +1,5 @@
--- The order of units, 0.0 to 1.0 without -0.0, is that of their bits: the smaller of two has the smaller bits, the larger the larger. Assumes nothing.
+-- The order of units, 0.0 to 1.0 without -0.0, is that of their bits: the smaller of two has the smaller bits, the
+-- larger the larger. Assumes nothing.
 use Prim.Native.Nat.{min, max, _<_, _≤_}
 use mathlib.Core.Path.{_≡_, refl}
 use mathlib.Core.Bool.{Bool, true, false, cond}
@@ -29,11 +30,13 @@ by-bits {x} {y} P {p} {q} a b f g = rw (plain-below (unit-plain a) (unit-plain b
 
 pub lesser-bits : {x y : Float} → IsUnit x → IsUnit y → toBits binary32 (lesser x y) ≡ min (toBits binary32 x) (toBits binary32 y)
 unfolding lesser
-lesser-bits {x} {y} a b = by-bits (λ z. toBits binary32 z ≡ min (toBits binary32 x) (toBits binary32 y)) a b (λ l. omega arith) (λ l. omega arith)
+lesser-bits {x} {y} a b =
+    by-bits (λ z. toBits binary32 z ≡ min (toBits binary32 x) (toBits binary32 y)) a b (λ l. omega arith) (λ l. omega arith)
 
 pub larger-bits : {x y : Float} → IsUnit x → IsUnit y → toBits binary32 (larger x y) ≡ max (toBits binary32 x) (toBits binary32 y)
 unfolding larger
-larger-bits {x} {y} a b = by-bits (λ z. toBits binary32 z ≡ max (toBits binary32 x) (toBits binary32 y)) b a (λ l. omega arith) (λ l. omega arith)
+larger-bits {x} {y} a b =
+    by-bits (λ z. toBits binary32 z ≡ max (toBits binary32 x) (toBits binary32 y)) b a (λ l. omega arith) (λ l. omega arith)
 
 -- either is one of the two
 pub lesser-unit : {x y : Float} → IsUnit x → IsUnit y → IsUnit (lesser x y)

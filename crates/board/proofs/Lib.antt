@@ -1,3 +1,4 @@
+pub mod Packed
 pub mod Planes
 pub mod Sides
 pub mod Units

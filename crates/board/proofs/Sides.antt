@@ -9,6 +9,14 @@ use lib.Dec.{leb, ltb}
 use Rattle.board.specs.Board.{leastPlaneSide, outside, sidesOutside, hasChannel}
 use Rattle.board.specs.Planes.{SidesIn}
 
+pub and-true : (p : Bool) → (p && true) ≡ p
+and-true true = refl
+and-true false = refl
+
+pub and-false : (p : Bool) → (p && false) ≡ false
+and-false true = refl
+and-false false = refl
+
 pub both : (p q : Bool) → (p && q) ≡ true → (p ≡ true) × (q ≡ true)
 both true q e = (refl, e)
 both false q e = absurd (false≢true e)
@@ -41,7 +49,8 @@ sides-in least h w e =
 
 pub sides-pass : {least h w : ℕ} → SidesIn least h w → sidesOutside least h w ≡ false
 unfolding sidesOutside outside
-sides-pass {least} {h} {w} s = rw (le-ltb h least (s .low-h), le-ltb 4096 h (s .high-h), le-ltb w least (s .low-w), le-ltb 4096 w (s .high-w))
+sides-pass {least} {h} {w} s =
+    rw (le-ltb h least (s .low-h), le-ltb 4096 h (s .high-h), le-ltb w least (s .low-w), le-ltb 4096 w (s .high-w))
 
 -- a plane that stands among len values
 pub record Stands (h w len k : ℕ) : Type 0 where

@@ -32,7 +32,18 @@ pub record LimitsAre (side planeSide most size : ℕ) : Type 0 where
 -- in a fresh record all but the sides is zero
 abbrev pub fresh : ℕ → ℕ → Board
 fresh h w =
-    record { height = h; width = w; «r_1» = 0; «c_1» = 0; r0 = 0; c0 = 0; r = 0; c = 0; pixelr = ofBits binary32 0; pixelc = ofBits binary32 0 }
+    record {
+      height = h;
+      width = w;
+      «r_1» = 0;
+      «c_1» = 0;
+      r0 = 0;
+      c0 = 0;
+      r = 0;
+      c = 0;
+      pixelr = ofBits binary32 0;
+      pixelc = ofBits binary32 0;
+    }
 
 -- what a refused load hands back
 abbrev pub blank : Board

@@ -14,8 +14,8 @@ abbrev pub allUnits : List Float → Bool
 allUnits [] = true
 allUnits (x ∷ l) = unit x && allUnits l
 
--- the answer to the planes of an h by w screen: 1 a side outside `least` to 4,096; 3 the planes short, or another slice that is lent; 4 one of the
--- 3·h·w plane values is no unit; 0 otherwise
+-- the answer to the planes of an h by w screen: 1 a side outside `least` to 4,096; 3 the planes short, or another
+-- slice that is lent; 4 one of the 3·h·w plane values is no unit; 0 otherwise
 unfoldable pub planesAnswer : ℕ → ℕ → ℕ → List Float → Bool → ℕ
 unfolding sidesOutside
 planesAnswer least h w planes short =

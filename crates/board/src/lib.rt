@@ -53,11 +53,13 @@ impl Board {
     // The side of a cell's sample.
     pub const MOST_SIZE: usize = 64;
 
-    // A record of these sides with zeros in the other eight fields. That the limits above are the definitions' is stated here: a constant has no
-    // contract of its own.
+    // A record of these sides with zeros in the other eight fields. That the limits above are the definitions' is
+    // stated here: a constant has no contract of its own.
     pub fn fresh(height: usize, width: usize) -> Self
         ensures { λ r. ⌜ r ≡ Spec.fresh height width ⌝ }
-        ensures limits { λ _. do ⌜ LimitsAre (← ⟦Board::LEAST_SIDE⟧ .entry) (← ⟦Board::LEAST_PLANE_SIDE⟧ .entry) (← ⟦Board::MOST_SIDE⟧ .entry) (← ⟦Board::MOST_SIZE⟧ .entry) ⌝ }
+        ensures limits { λ _. do
+          ⌜ LimitsAre (← ⟦Board::LEAST_SIDE⟧ .entry) (← ⟦Board::LEAST_PLANE_SIDE⟧ .entry)
+              (← ⟦Board::MOST_SIDE⟧ .entry) (← ⟦Board::MOST_SIZE⟧ .entry) ⌝ }
     {
         Board {
             height: height,
@@ -140,7 +142,8 @@ pub fn all_units(planes: &[f32], n: usize) -> bool
     count == 0
 }
 
-// The answer to planes of these sides, 1, 3, 4 or 0. `short` tells whether another slice is short; with sides outside the limits it is not looked at.
+// The answer to planes of these sides, 1, 3, 4 or 0. `short` tells whether another slice is short; with sides outside
+// the limits it is not looked at.
 pub fn planes_answer(least: usize, height: usize, width: usize, planes: &[f32], short: bool) -> u32
     ensures { λ r. ⌜ r ≡ planesAnswer least height width (now (planes .entry)) short ⌝ }
 {

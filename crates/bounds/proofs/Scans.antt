@@ -9,7 +9,7 @@ use borrow.Author.Tests.{leb-false, ltb-true, ne-eqb}
 use lib.Dec.{eqb, leb, ltb}
 use Rattle.bounds.specs.declared.Move.{Move}
 use Rattle.bounds.specs.declared.Move.the-variants.{Stop, To}
-use Rattle.bounds.specs.Scan.{seenAt, fifth, jump, skips, move, after, scanned}
+use Rattle.bounds.specs.Scan.{seenAt, fifth, jump, skips, move, followed, scanned}
 
 -- places left, of hi
 pub left-more : {hi p : ℕ} → p < hi → hi - p ≡ suc (hi - (p + 1))
@@ -20,7 +20,8 @@ left-none h = omega arith
 
 module _ (set : ℕ → Bool) where
   pub seen-more : (k p hi : ℕ) → p < hi →
-      seenAt set k p (hi - p) ≡ cond (set p) (cond (eqb k 0) p (seenAt set (k - 1) (p + 1) (hi - (p + 1)))) (seenAt set k (p + 1) (hi - (p + 1)))
+      seenAt set k p (hi - p) ≡ cond (set p) (cond (eqb k 0) p (seenAt set (k - 1) (p + 1) (hi - (p + 1))))
+      (seenAt set k (p + 1) (hi - (p + 1)))
   seen-more zero p hi h = rw (left-more h, add-one p)
   seen-more (suc k) p hi h = let e : suc k - 1 ≡ k = omega arith in rw (left-more h, add-one p, e, ne-eqb (suc k) 0 (λ q. omega arith))
 
@@ -40,7 +41,8 @@ module _ (at : ℕ → ℕ → Bool) (lo hi : ℕ) where
   pub skips-none : (m skip : ℕ) → 4 ≤ skip → skips at lo hi m skip (4 - skip) ≡ Stop
   skips-none m skip h = rw (left-none h)
 
-  jump-falls : {across m : ℕ} → hi ≤ across → (m' : ℕ) (other : Move) → m' < m → Falls across m other → Falls across m (jump at lo hi m' other)
+  jump-falls : {across m : ℕ} → hi ≤ across → (m' : ℕ) (other : Move) → m' < m → Falls across m other
+      → Falls across m (jump at lo hi m' other)
   jump-falls {across} {m} w m' other l f = on (ltb (fifth at lo hi m') hi) refl
     where
       on : (t : Bool) → ltb (fifth at lo hi m') hi ≡ t → Falls across m (cond t (To m' (fifth at lo hi m')) other)
@@ -100,6 +102,7 @@ module _ (at : ℕ → ℕ → Bool) (lo hi : ℕ) where
   scan-le zero m p = omega arith
   scan-le (suc moves) m p = on (scan-le moves) (move at lo hi m p) (move-falls {across = suc (hi + p)} (omega arith) (omega arith) m)
     where
-      on : ((m' p' : ℕ) → scanned at lo hi moves m' p' ≤ m') → (o : Move) → Falls (suc (hi + p)) m o → after o m (scanned at lo hi moves) ≤ m
+      on : ((m' p' : ℕ) → scanned at lo hi moves m' p' ≤ m') → (o : Move) → Falls (suc (hi + p)) m o
+          → followed o m (scanned at lo hi moves) ≤ m
       on ih Stop f = omega arith
       on ih (To m' p') f = omega (arith, ih m' p', f .0)

@@ -28,7 +28,8 @@ module _
   of-rows q = (rw q at is) ∙ ap (λ (E : ℕ → ℕ → Bool). F way E column row) (sym (flip-points stride 1 e))
 
 point : {row column stride n i j : ℕ} → column ≤ stride → row * stride ≤ n → i < row → j < column → i * stride + j < n
-point {row} {column} {stride} {n} {i} {j} narrow all hi hj = omega (arith, digits-lt {q = i} {m = row} {r = j} {c = stride} hi (omega arith))
+point {row} {column} {stride} {n} {i} {j} narrow all hi hj =
+    omega (arith, digits-lt {q = i} {m = row} {r = j} {c = stride} hi (omega arith))
 
 -- what a rule of the view asks: that every point is a byte, that k places at least lie across, and that c is a place along
 module _ {row column stride n k c : ℕ} (way : Way) {v : View} (narrow : column ≤ stride) (all : row * stride ≤ n) where

@@ -15,9 +15,9 @@ seenAt set zero from (suc n) = cond (set from) from (seenAt set zero (suc from) 
 seenAt set (suc k) from (suc n) = cond (set from) (seenAt set k (suc from) n) (seenAt set (suc k) (suc from) n)
 
 -- how a scan at the distance m goes on
-abbrev pub after : Move → ℕ → (ℕ → ℕ → ℕ) → ℕ
-after Stop m go = m
-after (To m' p') m go = go m' p'
+abbrev pub followed : Move → ℕ → (ℕ → ℕ → ℕ) → ℕ
+followed Stop m go = m
+followed (To m' p') m go = go m' p'
 
 module _ (at : ℕ → ℕ → Bool) (lo hi : ℕ) where
   -- the row of the fifth set point at the distance m; hi where there are fewer than five
@@ -39,7 +39,7 @@ module _ (at : ℕ → ℕ → Bool) (lo hi : ℕ) where
   -- the distance at which the scan stops. Each move lowers m, so m moves are enough.
   abbrev pub scanned : ℕ → ℕ → ℕ → ℕ
   scanned zero m p = m
-  scanned (suc moves) m p = after (move m p) m (scanned moves)
+  scanned (suc moves) m p = followed (move m p) m (scanned moves)
 
 -- the place at the distance m, of `along` places; and the distance of a place
 abbrev pub place : Way → ℕ → ℕ → ℕ

@@ -10,7 +10,7 @@ use lib.Dec.{ltb}
 use lib.Ieee.{Float, nan, le}
 use lib.ListN.{length, getD, List·getD-eq-default}
 use Rattle.lists.specs.Picture.{bit}
-use Rattle.lists.proofs.Fill.{getD-tab, length-tabFrom}
+use Rattle.lists.proofs.Tab.{getD-tab, length-tabFrom}
 use Rattle.lists.proofs.Picture.{bit-le}
 use Rattle.binary32.proofs.Plain.{plain-bits}
 use Rattle.board.specs.Board.{leastPlaneSide}

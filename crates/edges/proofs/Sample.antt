@@ -1,11 +1,10 @@
 -- The sample and its parts: where their rows lie, how many values they have, that they are plain, that the rank is one of the sample's
 -- places, and counting by the bits, value by value and row by row. Assumes nothing.
-use Prim.Native.Nat.{ℕ, zero, suc, _+_, _*_, _/_, _%_, _^_, _≤_, _<_}
+use Prim.Native.Nat.{ℕ, _+_, _*_, _/_, _%_, _^_, _≤_, _<_}
 use mathlib.Core.Path.{_≡_, refl, sym, ap}
 use mathlib.Core.Bool.{false, cond}
 use mathlib.Core.List.{List, [], _∷_}
-use native.Mathlib.Nat.{add-mul, zero-mul, one-mul, mul-zero, mul-comm, mul-le-mul, mul-le-mul-right, mul-pos}
-use native.Mathlib.Nat.{div-lt-iff-lt-mul, div-mul-le-self, mod-lt}
+use native.Mathlib.Nat.{add-mul, zero-mul, one-mul, mul-comm, mul-le-mul, mul-le-mul-right, mul-pos, div-mul-le-self, mod-lt}
 use native.Mathlib.Omega.{arith}
 use lib.Dec.{T, leb}
 use lib.Ieee.{Float, nan, binary32, le, fits, toBits, ofBits}
@@ -14,8 +13,8 @@ use lib.ListN.{length, getD}
 use Rattle.lists.specs.Tab.{tab, grid}
 use Rattle.lists.specs.Picture.{bit}
 use Rattle.lists.proofs.Count.{count-append, count-le}
-use Rattle.lists.proofs.Fill.{length-tabFrom, getD-tab, tab-same}
-use Rattle.lists.proofs.Grid.{cell, tab-more, grid-more}
+use Rattle.lists.proofs.Tab.{length-tabFrom, getD-tab, tab-same}
+use Rattle.lists.proofs.Grid.{row-column, tab-more, grid-more}
 use Rattle.binary32.proofs.Plain.{Plain, bits-plain, at-most-bits}
 use Rattle.binary32.proofs.Share.{share-below}
 use Rattle.rank.specs.Rank.{atMost, countAtMost}
@@ -29,6 +28,10 @@ AllAre P l = (k : ℕ) → k < length l → P (getD l k nan)
 -- the value in row i and column j of a part
 abbrev pub partAt : ℕ → ℕ → ℕ → ℕ → List Float → ℕ → ℕ → Float
 partAt s p row column g i j = getD g (start s p row column i + j) nan
+
+-- the value at a place, rows first
+abbrev pub atPlace : (ℕ → ℕ → Float) → ℕ → ℕ → Float
+atPlace f columns k = f (k / columns) (k % columns)
 
 -- place k, past a whole number of steps of s and within the next, lies in the middle half
 pub within : (s side i k : ℕ) → 1 ≤ s → i < taken s side → s * i + k % s < middle side
@@ -58,10 +61,6 @@ row-in s p row column i y z h =
 pub length-part : (s p row column : ℕ) (g : List Float) → length (part s p row column g) ≡ taken s row * taken p column
 length-part s p row column g = length-tabFrom 0 (taken s row * taken p column) _
 
-some-wide : {k : ℕ} (rows n : ℕ) → k < rows * n → 0 < n
-some-wide rows zero h = absurd (omega (arith, mul-zero rows))
-some-wide rows (suc n) h = omega arith
-
 -- every value of a part is one of the gradients
 pub part-plain : (s p row column : ℕ) (g : List Float) → 1 ≤ s → 1 ≤ p → length g ≡ row * column
     → ((k : ℕ) → T (fits binary32 (getD g k nan))) → AllPlain g → AllAre Plain (part s p row column g)
@@ -69,10 +68,10 @@ part-plain s p row column g y o e f q k h =
     let rows = taken s row in
     let n = taken p column in
     let l : k < rows * n = omega (arith, length-part s p row column g) in
-    let z : 0 < n = some-wide rows n l in
+    let place = row-column rows n k l in
     let at = start s p row column (k / n) + k % n in
-    let b : at < length g = omega (arith, row-in s p row column (k / n) y o (div-lt-iff-lt-mul z .1 l), mod-lt k z) in
-    rw (getD-tab (rows * n) k (cell (partAt s p row column g) n) nan l) (bits-plain (getD g at nan) (f at) (q at b))
+    let b : at < length g = omega (arith, row-in s p row column (k / n) y o (place .0), place .1) in
+    rw (getD-tab (rows * n) k (atPlace (partAt s p row column g) n) nan l) (bits-plain (getD g at nan) (f at) (q at b))
 
 -- the part that is all of it
 pub part-all : (row column : ℕ) (g : List Float) → part 1 1 row column g ≡ sample row column g
@@ -137,13 +136,13 @@ counted-more {b} {f} {k} {n = n} c h p e =
     counted (rw (tab-more k f) (omega (arith, c .is, count-append (atMost (toBits binary32) b) (tab k f) (f k ∷ []))))
 
 -- one row more
-pub counted-row : {b count n : ℕ} (f : ℕ → ℕ → Float) (columns i : ℕ) → Counted b (cell f columns) (i * columns) count
-    → n ≡ countAtMost (toBits binary32) b (tab columns (f i)) → Counted b (cell f columns) ((i + 1) * columns) (count + n)
+pub counted-row : {b count n : ℕ} (f : ℕ → ℕ → Float) (columns i : ℕ) → Counted b (atPlace f columns) (i * columns) count
+    → n ≡ countAtMost (toBits binary32) b (tab columns (f i)) → Counted b (atPlace f columns) ((i + 1) * columns) (count + n)
 counted-row {b} f columns i c e =
     let more = count-append (atMost (toBits binary32) b) (grid i columns f) (tab columns (f i)) in
     counted (rw (grid-more i columns f) (omega (arith, c .is, more)))
 
 -- all rows, by other names of their number and their length
-pub counted-all : {b i rows columns n count : ℕ} (f : ℕ → ℕ → Float) → Counted b (cell f columns) (i * columns) count → i ≡ rows
+pub counted-all : {b i rows columns n count : ℕ} (f : ℕ → ℕ → Float) → Counted b (atPlace f columns) (i * columns) count → i ≡ rows
     → columns ≡ n → count ≡ countAtMost (toBits binary32) b (grid rows n f)
 counted-all f c e d = rw (sym e, sym d) (c .is)

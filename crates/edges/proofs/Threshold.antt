@@ -58,7 +58,7 @@ threshold-is row column g rank e = rw e
 -- ---- cutting the range
 
 -- the range lies within the limits and holds the bits sought, if there is such an entry
-pub record Holds (l : List Float) (rank : ℕ) (r : Range) : Type 0 where
+pub record Encloses (l : List Float) (rank : ℕ) (r : Range) : Type 0 where
   pub some : r .lo ≤ r .hi
   pub floor : 0x3C23D70A ≤ r .lo
   pub ceiling : r .hi ≤ 0x3F800000
@@ -66,8 +66,8 @@ pub record Holds (l : List Float) (rank : ℕ) (r : Range) : Type 0 where
   pub high : rank < length l → sought l rank ≤ r .hi
 
 -- all bits that the threshold may have hold those sought
-pub holds-all : (l : List Float) (rank : ℕ) (r : Range) → AllAre Plain l → r .lo ≡ 0x3C23D70A → r .hi ≡ 0x3F800000 → Holds l rank r
-holds-all l rank r p d e =
+pub encloses-all : (l : List Float) (rank : ℕ) (r : Range) → AllAre Plain l → r .lo ≡ 0x3C23D70A → r .hi ≡ 0x3F800000 → Encloses l rank r
+encloses-all l rank r p d e =
     record {
       some = omega arith;
       floor = omega arith;
@@ -86,9 +86,9 @@ cut-inside {mid} {rank} {count} {r} {s} from to c = at (ltb rank count) refl
     at false q = let k = c .upper (ltb-false rank count q) in (omega (arith, k), omega (arith, k), omega (arith, k), omega (arith, k))
 
 -- it holds the bits still
-pub holds-cut : {l : List Float} {mid rank count : ℕ} {r s : Range} → AllAre Plain l → Holds l rank r → r .lo ≤ mid → mid < r .hi
-    → count ≡ countAtMost (toBits binary32) mid l → Cut r mid rank count s → Holds l rank s
-holds-cut {l} {mid} {rank} {count} {r} {s} p h from to e c =
+pub encloses-cut : {l : List Float} {mid rank count : ℕ} {r s : Range} → AllAre Plain l → Encloses l rank r → r .lo ≤ mid → mid < r .hi
+    → count ≡ countAtMost (toBits binary32) mid l → Cut r mid rank count s → Encloses l rank s
+encloses-cut {l} {mid} {rank} {count} {r} {s} p h from to e c =
     let i = cut-inside from to c in
     record {
       some = i .1;

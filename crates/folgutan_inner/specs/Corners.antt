@@ -2,5 +2,5 @@
 use Rattle.board.specs.declared.Bounds.{Bounds}
 use Rattle.folgutan_inner.specs.declared.Corners.{Corners}
 
-abbrev pub boundsIn : Corners → Bounds
-boundsIn b = record { «r_1» = b .«r_1»; «r_2» = b .«r_2»; «c_1» = b .«c_1»; «c_2» = b .«c_2» }
+abbrev pub asBounds : Corners → Bounds
+asBounds b = record { «r_1» = b .«r_1»; «r_2» = b .«r_2»; «c_1» = b .«c_1»; «c_2» = b .«c_2» }

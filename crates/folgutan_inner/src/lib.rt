@@ -1,5 +1,4 @@
 // Inner steps for tests and benchmarks alone: in no header. What a function requires, its caller makes sure of.
-ghost use mathlib.Core.Bool.{true, false};
 ghost use Prim.Native.Nat.{_+_, _-_, _*_};
 ghost use lib.ListN.{take, drop};
 ghost use Rattle.lists.specs.Picture.{points};
@@ -7,14 +6,14 @@ ghost use Rattle.board.specs.Board.{leastPlaneSide};
 ghost use Rattle.board.specs.Planes.{allUnits, FitPlanes};
 ghost use Rattle.lists.specs.Front.{AtFront};
 ghost use Rattle.gradient.specs.Gradient.{gradients};
-ghost use Rattle.edges.specs.Edges.{marks, threshold, AllPlain};
+ghost use Rattle.edges.specs.Edges.{marked, AllPlain, EdgesFit};
 ghost use Rattle.narrow.specs.Narrow as Narrow;
 ghost use Rattle.bounds.specs.Bounds.{boundsOf, BoundsIn};
 ghost use Rattle.bounds.specs.Bounds as BoundsSpec;
 ghost use Rattle.strips.specs.Strip.{placeCount, columnScores, rowScores};
 ghost use Rattle.strips.specs.States.{Scorable};
 ghost use Rattle.sample.specs.Sample.{CellGives};
-ghost use Rattle.folgutan_inner.specs.Corners.{boundsIn};
+ghost use Rattle.folgutan_inner.specs.Corners.{asBounds};
 ghost use mathlib.Core.Path.{_≡_};
 ghost use mathlib.Core.Bool.{not};
 ghost use Prim.Native.Nat.{_≤_, _^_};
@@ -95,9 +94,9 @@ pub extern "C" fn folgutan_inner_gradient_of(
 
 #[no_mangle]
 pub extern "C" fn folgutan_inner_edges(row: usize, column: usize, g: &[f32], out: &mut [u8])
-    requires { ⌜ (2 ≤ row) × (row ≤ 4094) × (2 ≤ column) × (column ≤ 4094) × (length (now g) ≡ row * column) × (row * column ≤ length (now out)) ⌝ }
+    requires { ⌜ EdgesFit row column (now g) (now out) ⌝ }
     requires { ⌜ AllPlain (now g) ⌝ }
-    ensures { λ _. ⌜ AtFront (marks (threshold row column (now (g .entry))) (row * column) (now (g .entry))) (now (out .entry)) (now (out .exit)) ⌝ }
+    ensures { λ _. ⌜ AtFront (marked row column (now (g .entry))) (now (out .entry)) (now (out .exit)) ⌝ }
 {
     edges::edges_of(row, column, g, out)
 }
@@ -119,7 +118,7 @@ pub extern "C" fn folgutan_inner_narrow(
 #[no_mangle]
 pub extern "C" fn folgutan_inner_bounds(edges: &[u8], row: usize, column: usize) -> Corners
     requires { ⌜ (1 ≤ row) × (row ≤ 4094) × (1 ≤ column) × (column ≤ 4094) × (row * column ≤ length (now edges)) ⌝ }
-    ensures { λ r. ⌜ boundsIn r ≡ boundsOf (points column 1 (now (edges .entry))) row column ⌝ }
+    ensures { λ r. ⌜ asBounds r ≡ boundsOf (points column 1 (now (edges .entry))) row column ⌝ }
 {
     let b = bounds::get_r12c12(edges, row, column);
     Corners {
@@ -131,7 +130,7 @@ pub extern "C" fn folgutan_inner_bounds(edges: &[u8], row: usize, column: usize)
 }
 
 fn bounds_of(c: Corners) -> Bounds
-    ensures { λ r. ⌜ r ≡ boundsIn c ⌝ }
+    ensures { λ r. ⌜ r ≡ asBounds c ⌝ }
 {
     Bounds {
         r_1: c.r_1,
@@ -149,8 +148,9 @@ pub extern "C" fn folgutan_inner_widen(
     column: usize,
     b: Corners,
 ) -> Corners
-    requires { ⌜ (3 ≤ row) × (row ≤ 4094) × (3 ≤ column) × (column ≤ 4094) × (column ≤ stride) × (row * stride ≤ length (now edges)) × BoundsIn row column (boundsIn b) ⌝ }
-    ensures { λ r. ⌜ boundsIn r ≡ BoundsSpec.widen (points stride 1 (now (edges .entry))) row column (boundsIn b) ⌝ }
+    requires { ⌜ (3 ≤ row) × (row ≤ 4094) × (3 ≤ column) × (column ≤ 4094) × (column ≤ stride) × (row * stride ≤ length (now edges))
+        × BoundsIn row column (asBounds b) ⌝ }
+    ensures { λ r. ⌜ asBounds r ≡ BoundsSpec.widen (points stride 1 (now (edges .entry))) row column (asBounds b) ⌝ }
 {
     let w = bounds::widen(edges, stride, row, column, bounds_of(b));
     Corners {
@@ -168,8 +168,8 @@ pub extern "C" fn folgutan_inner_column_scores(
     b: Corners,
     out: &mut [u32],
 )
-    requires { ⌜ Scorable (now edges) stride (boundsIn b) × (placeCount (b .«c_1») (b .«c_2») ≤ length (now out)) ⌝ }
-    ensures { λ _. ⌜ AtFront (columnScores (points stride 1 (now (edges .entry))) (boundsIn b)) (now (out .entry)) (now (out .exit)) ⌝ }
+    requires { ⌜ Scorable (now edges) stride (asBounds b) × (placeCount (b .«c_1») (b .«c_2») ≤ length (now out)) ⌝ }
+    ensures { λ _. ⌜ AtFront (columnScores (points stride 1 (now (edges .entry))) (asBounds b)) (now (out .entry)) (now (out .exit)) ⌝ }
 {
     strips::column_scores(edges, stride, bounds_of(b), out)
 }
@@ -182,9 +182,10 @@ pub extern "C" fn folgutan_inner_row_scores(
     turned: &mut [u8],
     out: &mut [u32],
 )
-    requires { ⌜ Scorable (now edges) stride (boundsIn b) × ((b .«c_2» - b .«c_1» + 1) * placeCount (b .«r_1») (b .«r_2») ≤ length (now turned))
+    requires { ⌜ Scorable (now edges) stride (asBounds b)
+        × ((b .«c_2» - b .«c_1» + 1) * placeCount (b .«r_1») (b .«r_2») ≤ length (now turned))
         × (placeCount (b .«r_1») (b .«r_2») ≤ length (now out)) ⌝ }
-    ensures { λ _. ⌜ AtFront (rowScores (points stride 1 (now (edges .entry))) (boundsIn b)) (now (out .entry)) (now (out .exit)) ⌝ }
+    ensures { λ _. ⌜ AtFront (rowScores (points stride 1 (now (edges .entry))) (asBounds b)) (now (out .entry)) (now (out .exit)) ⌝ }
 {
     strips::row_scores(edges, stride, bounds_of(b), turned, out)
 }

@@ -3,12 +3,13 @@
 use Prim.Native.Nat.{ℕ, _+_, _-_, _*_, _/_, _%_, _≤_, _<_}
 use mathlib.Core.Path.{_≡_, sym}
 use mathlib.Core.List.{List}
-use native.Mathlib.Nat.{mul-le-mul, div-lt-iff-lt-mul, mod-lt}
+use native.Mathlib.Nat.{mul-le-mul}
 use native.Mathlib.Omega.{arith}
 use lib.Ieee.{Float, nan, binary32}
 use lib.Ieee.Fits.{add-fits}
 use lib.ListN.{length, getD}
-use Rattle.lists.proofs.Fill.{getD-tab, length-tabFrom}
+use Rattle.lists.proofs.Tab.{getD-tab, length-tabFrom}
+use Rattle.lists.proofs.Grid.{row-column}
 use Rattle.binary32.specs.Binary32.{magnitude}
 use Rattle.binary32.proofs.Plain.{Plain, plain-of, plain-magnitude, plain-larger}
 use Rattle.board.specs.Board.{leastPlaneSide}
@@ -46,6 +47,6 @@ module _ (p : List Float) where
 
     pub gradients-plain : (k : ℕ) → k < (h - 2) * (w - 2) → Plain (getD (gradients h w p) k nan)
     gradients-plain k b =
-        let z : 0 < w - 2 = omega (arith, fit .sides .low-w) in
+        let at = row-column (h - 2) (w - 2) k b in
         rw (getD-tab ((h - 2) * (w - 2)) k _ nan b)
-        (point-plain (k / (w - 2)) (k % (w - 2)) (place h w _ _ (fit .sides) (div-lt-iff-lt-mul z .1 b) (mod-lt k z)))
+        (point-plain (k / (w - 2)) (k % (w - 2)) (place h w _ _ (fit .sides) (at .0) (at .1)))

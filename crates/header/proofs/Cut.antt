@@ -10,15 +10,11 @@ use native.Mathlib.Omega.{arith}
 use borrow.Author.Tests.{lt-leb}
 use lib.Dec.{eqb, ltb}
 use lib.ListN.{length, take, drop}
-use lib.Seq.{getD-take, take-nil}
+use lib.Seq.{getD-take}
+use Rattle.lists.proofs.Part.{drop-take}
+use Rattle.board.proofs.Sides.{and-false}
 use Rattle.header.specs.Header.{sidesLine, begins, isDigit, digitCount, digitsEnd, fourAtMost, valueAt, numbersAt, headerOf}
 use Rattle.header.proofs.Numbers.{four-facts, first-bad, second-bad, both-good}
-
-pub drop-take : (a m : ℕ) (l : List ℕ) → drop a (take m l) ≡ take (m - a) (drop a l)
-drop-take zero m l = let e : m - 0 ≡ m = omega arith in rw e
-drop-take (suc a) zero l = let e : zero - suc a ≡ 0 = omega arith in rw e
-drop-take (suc a) (suc m) [] = sym (take-nil (suc m - suc a))
-drop-take (suc a) (suc m) (x ∷ l) = let e : suc m - suc a ≡ m - a = omega arith in rw e (drop-take a m l)
 
 begins-front : (line bytes : List ℕ) (m : ℕ) → length line ≤ m → begins line (take m bytes) ≡ begins line bytes
 begins-front [] bytes m h = refl
@@ -57,11 +53,7 @@ ends-front bytes m from h =
 -- more than four
 four-long : (bytes : List ℕ) (from end mark : ℕ) → from + 4 < end → fourAtMost bytes from end mark ≡ false
 unfolding fourAtMost
-four-long bytes from end mark l = rw (lt-leb end (from + 4) l) (go (ltb from end))
-  where
-    go : (t : Bool) → t && false ≡ false
-    go true = refl
-    go false = refl
+four-long bytes from end mark l = rw (lt-leb end (from + 4) l) (and-false (ltb from end))
 
 four-front : (bytes : List ℕ) (m from end mark : ℕ) → end < m → fourAtMost (take m bytes) from end mark ≡ fourAtMost bytes from end mark
 unfolding fourAtMost

@@ -1,7 +1,7 @@
 -- A list that begins with a line, looked at byte by byte.
 use Prim.Native.Nat.{ℕ, _+_, _<_}
 use mathlib.Core.Path.{_≡_, refl}
-use mathlib.Core.Bool.{Bool, true, false, _&&_}
+use mathlib.Core.Bool.{true, false}
 use mathlib.Core.List.{List, [], _∷_}
 use native.Mathlib.Nat.{not-suc-le-zero, le-of-suc-le-suc}
 use native.Mathlib.Numerals.{add-one}
@@ -9,16 +9,13 @@ use lib.Dec.{eqb}
 use lib.ListN.{length, getD, drop}
 use lib.Seq.{drop-cons, drop-length}
 use borrow.Author.Tests.{eq-eqb, ne-eqb}
+use Rattle.board.proofs.Sides.{and-false}
 use Rattle.header.specs.Header.{begins}
 
 pub begins-short : (line bytes : List ℕ) → length bytes < length line → begins line bytes ≡ false
 begins-short [] bytes l = absurd (not-suc-le-zero l)
 begins-short (x ∷ line) [] l = refl
-begins-short (x ∷ line) (b ∷ bytes) l = rw (begins-short line bytes (le-of-suc-le-suc l)) (go (eqb x b))
-  where
-    go : (t : Bool) → t && false ≡ false
-    go true = refl
-    go false = refl
+begins-short (x ∷ line) (b ∷ bytes) l = rw (begins-short line bytes (le-of-suc-le-suc l)) (and-false (eqb x b))
 
 module _ (line bytes : List ℕ) (k : ℕ) (in-line : k < length line) (in-bytes : k < length bytes) where
   -- one byte agrees

@@ -11,20 +11,20 @@ use lib.ListN.{length, getD, take, drop}
 use lib.Seq.{set-getD}
 use Rattle.lists.specs.Front.{AtFront}
 use Rattle.lists.specs.Tab.{tab}
-use Rattle.lists.proofs.Fill.{length-tabFrom, getD-tab}
+use Rattle.lists.proofs.Tab.{length-tabFrom, getD-tab}
 use Rattle.lists.proofs.Front.{front-none, front-more, front-part, front-fits, front-within, front-beyond, front-over}
-use Rattle.lines.specs.Lines.{largest, before, behind, smoothed, smooth}
+use Rattle.lines.specs.Lines.{largest, entriesBefore, entriesBehind, smoothed, smooth}
 use Rattle.lines.proofs.Windows.{largest-at, largest-le, largest-take, largest-drop}
 
 -- what is right already need not be written
-front-kept : (m : ℕ) (f : ℕ → ℕ) (k : ℕ) {lent out : List ℕ} → AtFront (tab k f) lent out → k + m ≤ length lent
+front-already : (m : ℕ) (f : ℕ → ℕ) (k : ℕ) {lent out : List ℕ} → AtFront (tab k f) lent out → k + m ≤ length lent
     → ((i : ℕ) → k ≤ i → i < k + m → getD lent i 0 ≡ f i) → AtFront (tab (k + m) f) lent out
-front-kept zero f k h l e = rw (add-zero k) h
-front-kept (suc m) f k {lent} {out} h l e =
+front-already zero f k h l e = rw (add-zero k) h
+front-already (suc m) f k {lent} {out} h l e =
     let q : k + suc m ≡ k + 1 + m = omega arith in
     let here = front-beyond 0 k h (rw (length-tabFrom 0 k f) (le-refl k)) ∙ e k (omega arith) (omega arith) in
     let more = front-more f k h (omega arith) here in
-    rw q (front-kept m f (k + 1) (rw (set-getD out k 0) at more) (omega arith) (λ i a b. e i (omega arith) (omega arith)))
+    rw q (front-already m f (k + 1) (rw (set-getD out k 0) at more) (omega arith) (λ i a b. e i (omega arith) (omega arith)))
 
 first-four : (s : List ℕ) (i : ℕ) → i < 4 → getD s i 0 ≡ smoothed s i
 first-four s i h = rw (lt-ltb i 4 h)
@@ -42,7 +42,7 @@ inner s i h k = let e : i - (i - 4) ≡ 4 = omega arith in rw (le-ltb i 4 h, lt-
 -- the loop begins with a copy of s, and its first four are right
 pub smooth-begun : (s : List ℕ) {lent copy : List ℕ} → AtFront s lent copy → 4 ≤ length s → AtFront (tab 4 (smoothed s)) copy copy
 smooth-begun s c h =
-    front-kept 4 (smoothed s) 0 front-none (omega (arith, front-fits c))
+    front-already 4 (smoothed s) 0 front-none (omega (arith, front-fits c))
     (λ i a b. front-within 0 i c (omega arith) ∙ first-four s i (omega arith))
 
 -- it ends before the last four, which are right too
@@ -52,7 +52,7 @@ unfolding smooth
 smooth-ended s {k} c h a b l =
     let n : k + (length s - k) ≡ length s = omega arith in
     let whole =
-    front-kept (length s - k) (smoothed s) k h (omega (arith, front-fits c))
+    front-already (length s - k) (smoothed s) k h (omega (arith, front-fits c))
     (λ i p q. front-within 0 i c (omega arith) ∙ last-four s i (omega arith) (omega arith)) in
     front-over c (rw n at whole) (rw (length-tabFrom 0 (length s) (smoothed s)) (le-refl (length s)))
 
@@ -63,7 +63,8 @@ length-smooth s = length-tabFrom 0 (length s) (smoothed s)
 smoothed-le : (s : List ℕ) (i : ℕ) → smoothed s i ≤ largest s
 smoothed-le s i = go (ltb i 4 || leb (length s) (i + 4))
   where
-    go : (t : Bool) → cond t (getD s i 0) (max (getD s i 0) (min (largest (before 4 s i)) (largest (behind 4 s i)))) ≤ largest s
+    go : (t : Bool)
+        → cond t (getD s i 0) (max (getD s i 0) (min (largest (entriesBefore 4 s i)) (largest (entriesBehind 4 s i)))) ≤ largest s
     go true = largest-at s i
     go false = omega (arith, largest-at s i, largest-take 4 (drop (i + 1) s), largest-drop (i + 1) s)
 

@@ -6,7 +6,7 @@ use native.Mathlib.Numerals.{add-one, add-two, add-three}
 use native.Mathlib.Omega.{arith}
 use lib.ListN.{length, getD, take, drop, length-drop, length-take}
 use lib.Seq.{drop-cons, drop-length, take-all}
-use Rattle.lines.specs.Lines.{largest, before, behind}
+use Rattle.lines.specs.Lines.{largest, entriesBefore, entriesBehind}
 
 pub max-next :
     (m : ℕ) {m' : ℕ} (l : List ℕ) (k : ℕ)
@@ -58,13 +58,13 @@ largest-four l k h =
     rw (a, b, c, d, add-one k, add-two k, add-three k, max-zero)
 
 -- what lies after place i is short enough to be taken whole
-pub behind-all : (l : List ℕ) (i : ℕ) → length l - (i + 1) < 7 → take (length l - (i + 1)) (drop (i + 1) l) ≡ behind 7 l i
+pub behind-all : (l : List ℕ) (i : ℕ) → length l - (i + 1) < 7 → take (length l - (i + 1)) (drop (i + 1) l) ≡ entriesBehind 7 l i
 behind-all l i h =
     let n = length-drop (i + 1) l in
     take-all (length l - (i + 1)) (drop (i + 1) l) (omega arith) ∙ sym (take-all 7 (drop (i + 1) l) (omega arith))
 
-pub before-short : (l : List ℕ) (i : ℕ) → length (before 7 l i) ≤ 7
+pub before-short : (l : List ℕ) (i : ℕ) → length (entriesBefore 7 l i) ≤ 7
 before-short l i = omega (arith, length-take (i - (i - 7)) (drop (i - 7) l))
 
-pub behind-short : (l : List ℕ) (i : ℕ) → length (behind 7 l i) ≤ 7
+pub behind-short : (l : List ℕ) (i : ℕ) → length (entriesBehind 7 l i) ≤ 7
 behind-short l i = omega (arith, length-take 7 (drop (i + 1) l))

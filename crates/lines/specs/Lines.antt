@@ -32,16 +32,18 @@ lineThreshold s =
     (ofBits binary32 0x40000000)
 
 -- the n entries before i, as far as there are so many, and the n after it
-abbrev pub before : ℕ → List ℕ → ℕ → List ℕ
-before n l i = take (i - (i - n)) (drop (i - n) l)
+abbrev pub entriesBefore : ℕ → List ℕ → ℕ → List ℕ
+entriesBefore n l i = take (i - (i - n)) (drop (i - n) l)
 
-abbrev pub behind : ℕ → List ℕ → ℕ → List ℕ
-behind n l i = take n (drop (i + 1) l)
+abbrev pub entriesBehind : ℕ → List ℕ → ℕ → List ℕ
+entriesBehind n l i = take n (drop (i + 1) l)
 
 -- t: the first and last four as s, else the larger of s(i) and the smaller of the largest four before and after
 abbrev pub smoothed : List ℕ → ℕ → ℕ
 smoothed s i =
-    cond (ltb i 4 || leb (length s) (i + 4)) (getD s i 0) (max (getD s i 0) (min (largest (before 4 s i)) (largest (behind 4 s i))))
+    cond (ltb i 4 || leb (length s) (i + 4))
+    (getD s i 0)
+    (max (getD s i 0) (min (largest (entriesBefore 4 s i)) (largest (entriesBehind 4 s i))))
 
 unfoldable pub smooth : List ℕ → List ℕ
 smooth s = tab (length s) (smoothed s)
@@ -56,7 +58,7 @@ standsOut v a b =
 
 -- place i of t is a line: t(i) ≥ th, and it stands out of the 7 places before and the 7 after
 unfoldable pub isLine : Float → List ℕ → ℕ → Bool
-isLine th t i = le th (float (getD t i 0)) && standsOut (getD t i 0) (before 7 t i) (behind 7 t i)
+isLine th t i = le th (float (getD t i 0)) && standsOut (getD t i 0) (entriesBefore 7 t i) (entriesBehind 7 t i)
 
 abbrev pub keep : (ℕ → Bool) → List ℕ → List ℕ
 keep p [] = []

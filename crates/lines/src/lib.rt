@@ -6,7 +6,8 @@ ghost use Prim.Native.Nat.{_+_, _-_, _≤_, _<_, min, max};
 ghost use lib.Dec.{eqb};
 ghost use lib.ListN.{length, getD, take, drop};
 ghost use Rattle.lists.specs.Front.{AtFront};
-ghost use Rattle.lines.specs.Lines.{largest, InLimits, before, behind, smoothed, smooth, standsOut, isLine, linesOf, lineThreshold};
+ghost use Rattle.lines.specs.Lines.{largest, InLimits, entriesBefore, entriesBehind, smoothed, smooth, standsOut, isLine, linesOf};
+ghost use Rattle.lines.specs.Lines.{lineThreshold};
 ghost use Rattle.lines.specs.Lines.{placesOf, wideGaps, chosenGap, narrowGap, dropFirst, dropLast, Remains};
 
 // No score is above this, and no list longer.
@@ -96,7 +97,7 @@ pub fn line_threshold(s: &[u32]) -> f32
 // The seven entries before place i, as far as there are so many.
 fn seven_before<'a>(t: &'a [u32], i: usize) -> &'a [u32]
     requires { ⌜ i < length (now t) ⌝ }
-    ensures { λ r. ⌜ now r ≡ before 7 (now (t .entry)) i ⌝ }
+    ensures { λ r. ⌜ now r ≡ entriesBefore 7 (now (t .entry)) i ⌝ }
 {
     if i < 7 {
         return &t[0..i];
@@ -108,7 +109,7 @@ fn seven_before<'a>(t: &'a [u32], i: usize) -> &'a [u32]
 // The seven after it.
 fn seven_behind<'a>(t: &'a [u32], i: usize) -> &'a [u32]
     requires { ⌜ i < length (now t) ⌝ }
-    ensures { λ r. ⌜ now r ≡ behind 7 (now (t .entry)) i ⌝ }
+    ensures { λ r. ⌜ now r ≡ entriesBehind 7 (now (t .entry)) i ⌝ }
 {
     let from = i + 1;
     if t.len() - from < 7 {

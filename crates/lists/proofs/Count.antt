@@ -15,7 +15,8 @@ module _ {A : Type 0} (test : A → Bool) where
   count-append (x ∷ a) b = omega (arith, count-append a b)
 
   -- the entry at k by itself, and those after it
-  pub count-next : (l : List A) (k : ℕ) (d : A) → k < length l → count test (drop k l) ≡ count test (getD l k d ∷ []) + count test (drop (k + 1) l)
+  pub count-next : (l : List A) (k : ℕ) (d : A) → k < length l
+      → count test (drop k l) ≡ count test (getD l k d ∷ []) + count test (drop (k + 1) l)
   count-next l k d h = rw (drop-cons l k d h, add-one k) (omega arith)
 
   pub count-none : (l : List A) (k : ℕ) → k ≡ length l → count test (drop k l) ≡ 0

@@ -1,16 +1,18 @@
--- A list at the front of a slice, or from a place on: how it is written entry by entry or part by part, and what is read back. Assumes nothing.
-use Prim.Native.Nat.{ℕ, zero, suc, _+_, _-_, _*_, _≤_, _<_}
+-- A list at the front of a slice, or from a place on: how it is written entry by entry or part by part, and what is
+-- read back. Assumes nothing.
+use Prim.Native.Nat.{ℕ, _+_, _-_, _*_, _≤_, _<_}
 use mathlib.Core.Path.{_≡_, refl, sym, ap, _∙_}
 use mathlib.Core.List.{List, [], _∷_, _++_, append-nil, append-assoc}
 use native.Mathlib.Nat.{add-zero, add-mul, one-mul, not-suc-le-zero, le-of-suc-le-suc}
 use native.Mathlib.Numerals.{add-one}
 use native.Mathlib.Omega.{arith}
 use lib.ListN.{length, take, drop, getD, set, length-set, length-append, length-drop, take-append-drop, List·getD-append}
-use lib.Seq.{take-at, drop-at, drop-drop, drop-length, length-take-le, set-split, getD-append-add, getD-drop}
-use borrow.Rule.Slice.PartMut.{midOf, putMid}
+use lib.Seq.{take-at, take-append-le, length-take-le, drop-at, drop-drop, drop-length, drop-append-le}
+use lib.Seq.{set-split, getD-append-add, getD-drop}
+use borrow.Rule.Slice.PartMut.{midOf, putMid, same-len-mid}
 use Rattle.lists.specs.Front.{AtFront, Placed}
 use Rattle.lists.specs.Tab.{tab, grid}
-use Rattle.lists.proofs.Fill.{length-tabFrom, tab-same, tab-add}
+use Rattle.lists.proofs.Tab.{length-tabFrom, tab-same, tab-add}
 use Rattle.lists.proofs.Grid.{tab-more, grid-more}
 use Rattle.lists.proofs.Part.{mid-rest, put-rest}
 
@@ -50,6 +52,21 @@ module _ {A : Type 0} where
   pub front-rest : {list lent out : List A} (n : ℕ) → length list ≡ n → AtFront list lent out → drop n out ≡ drop n lent
   front-rest {list} {lent} n l h = rw (front-is n l h) (drop-at list (drop n lent) n l)
 
+  -- behind the list all is as it was
+  pub front-kept : {list lent out : List A} (m : ℕ) → length list ≤ m → AtFront list lent out → drop m out ≡ drop m lent
+  front-kept {list} {lent} {out} m l h =
+      let k = m - length list in
+      let n : m ≡ length list + k = omega arith in
+      rw n (sym (drop-drop k (length list) out) ∙ rw (front-rest (length list) refl h) (drop-drop k (length list) lent))
+
+  -- a part of the list
+  pub front-inner : {list lent out : List A} (from end : ℕ) → AtFront list lent out → from ≤ end → end ≤ length list
+      → take (end - from) (drop from out) ≡ take (end - from) (drop from list)
+  front-inner {list} {lent} from end h r i =
+      let rest = drop (length list) lent in
+      rw (h .is, drop-append-le from list rest (omega arith))
+      (take-append-le (end - from) (drop from list) rest (omega (arith, length-drop from list)))
+
   pub front-fits : {list lent out : List A} → AtFront list lent out → length list ≤ length out
   front-fits {list} {lent} h = omega (arith, ap length (h .is), length-append list (drop (length list) lent))
 
@@ -71,11 +88,7 @@ module _ {A : Type 0} where
 
   -- written over by a list that is no shorter
   pub front-over : {a b lent mid out : List A} → AtFront a lent mid → AtFront b mid out → length a ≤ length b → AtFront b lent out
-  front-over {a} {b} {lent} {mid} h k le =
-      let n : length b ≡ length a + (length b - length a) = omega arith in
-      let rest : drop (length b) mid ≡ drop (length b) lent =
-      rw n (sym (drop-drop (length b - length a) (length a) mid) ∙ rw (front-rest (length a) refl h) (drop-drop (length b - length a) (length a) lent)) in
-      record { len = k .len ∙ h .len; is = rw (← rest) (k .is) }
+  front-over {b = b} h k le = record { len = k .len ∙ h .len; is = rw (← front-kept (length b) le h) (k .is) }
 
   -- a list at the front, then another at the front of the part behind it
   pub front-behind : {p q lent s last : List A} (n : ℕ) → length p ≡ n → AtFront p lent s → AtFront q (midOf n (length s - n) s) last
@@ -93,8 +106,13 @@ module _ {A : Type 0} where
   pub placed-none : {at : ℕ} {lent : List A} → Placed [] at lent lent
   placed-none {at} {lent} = record { len = refl; is = rw add-zero (sym (take-append-drop at lent)) }
 
+  -- a part that comes back with as many entries stands where it was lent
+  pub placed-part : (a k : ℕ) (s last : List A) → length (midOf a k s) ≡ k → length last ≡ k → Placed last a s (putMid a k s last)
+  placed-part a k s last n l = record { len = same-len-mid a k s last (l ∙ sym n); is = rw (l, drop-drop) }
+
   -- one list behind another
-  pub placed-join : {a b : List A} {at k : ℕ} {lent mid out : List A} → Placed a at lent mid → Placed b k mid out → k ≡ at + length a → k ≤ length lent
+  pub placed-join : {a b : List A} {at k : ℕ} {lent mid out : List A} → Placed a at lent mid → Placed b k mid out → k ≡ at + length a
+      → k ≤ length lent
       → Placed (a ++ b) at lent out
   placed-join {a} {b} {at} {k} {lent} {mid} {out} x y s h =
       let t : length (take at lent) ≡ at = length-take-le at lent (omega arith) in
@@ -107,7 +125,8 @@ module _ {A : Type 0} where
       record { len = y .len ∙ x .len; is = y .is ∙ rw (front, back, append-assoc, append-assoc) }
 
   -- what was written up to the place goes on
-  pub placed-front : {text list : List A} {at : ℕ} {lent before after : List A} → AtFront text lent before → length text ≡ at → Placed list at before after
+  pub placed-front : {text list : List A} {at : ℕ} {lent before after : List A} → AtFront text lent before → length text ≡ at
+      → Placed list at before after
       → AtFront (text ++ list) lent after
   placed-front {text} {list} {at} {lent} {before} {after} h l x =
       record {
@@ -117,7 +136,8 @@ module _ {A : Type 0} where
       }
 
   -- by a rule: the loops that fill a slice from a place on
-  pub placed-more : (value : ℕ → A) (n : ℕ) {at : ℕ} {lent out : List A} {v : A} → Placed (tab n value) at lent out → at + n < length lent → v ≡ value n
+  pub placed-more : (value : ℕ → A) (n : ℕ) {at : ℕ} {lent out : List A} {v : A} → Placed (tab n value) at lent out → at + n < length lent
+      → v ≡ value n
       → Placed (tab (n + 1) value) at lent (set out (at + n) v)
   placed-more value n {at} {lent} {out} {v} x b e =
       let l : length (tab n value) ≡ n = length-tabFrom 0 n value in
@@ -139,6 +159,7 @@ module _ {A : Type 0} where
   placed-start {list} x = let n : 0 + length list ≡ length list = omega arith in record { len = x .len; is = rw n at (x .is) }
 
   -- a grid by its rows
-  pub front-row : (f : ℕ → ℕ → A) (i columns : ℕ) {lent mid out : List A} → AtFront (grid i columns f) lent mid → Placed (tab columns (f i)) (i * columns) mid out
+  pub front-row : (f : ℕ → ℕ → A) (i columns : ℕ) {lent mid out : List A} → AtFront (grid i columns f) lent mid
+      → Placed (tab columns (f i)) (i * columns) mid out
       → AtFront (grid (i + 1) columns f) lent out
   front-row f i columns h x = rw (grid-more i columns f) (placed-front h (length-tabFrom 0 (i * columns) _) x)

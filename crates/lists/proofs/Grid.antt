@@ -1,13 +1,17 @@
--- A grid row by row: where its rows end, one row more, and a list that is filled row by row by a rule for each row and column. Assumes nothing.
-use Prim.Native.Nat.{ℕ, _+_, _*_, _/_, _%_, _≤_, _<_}
+-- A grid row by row: the row and the column of a place, where rows end, and one row more. Assumes nothing.
+use Prim.Native.Nat.{ℕ, zero, suc, _+_, _*_, _/_, _%_, _≤_, _<_}
 use mathlib.Core.Path.{_≡_, ap, _∙_}
 use mathlib.Core.List.{List, [], _∷_, _++_}
-use native.Mathlib.Nat.{add-zero, add-mul, suc-mul, one-mul, mul-le-mul-right}
+use native.Mathlib.Nat.{div-lt-iff-lt-mul, mod-lt, mul-zero, add-zero, add-mul, suc-mul, one-mul, mul-le-mul-right}
 use native.Mathlib.Omega.{arith}
 use lib.Arith.{digits-div, digits-mod}
 use Rattle.lists.specs.Tab.{tab, grid}
-use Rattle.lists.proofs.Fill.{tab-same, tab-add}
-use Rattle.lists.specs.Fill.{Filled, Extends}
+use Rattle.lists.proofs.Tab.{tab-same, tab-add}
+
+-- the row and the column of a place
+pub row-column : (rows columns k : ℕ) → k < rows * columns → (k / columns < rows) × (k % columns < columns)
+row-column rows zero k l = absurd (omega (arith, mul-zero rows))
+row-column rows (suc n) k l = (div-lt-iff-lt-mul {k = suc n} {x = k} {y = rows} (omega arith) .1 l, mod-lt k (omega arith))
 
 -- rows i to i + w of n rows end within them
 pub rows-fit : (i w n s : ℕ) → i + w ≤ n → i * s + w * s ≤ n * s
@@ -26,16 +30,3 @@ module _ {A : Type 0} where
       let row : tab columns (λ k. f ((i * columns + k) / columns) ((i * columns + k) % columns)) ≡ tab columns (f i) =
       tab-same columns _ _ (λ k h. rw (digits-div i h, digits-mod i h)) in
       rw e (tab-add (i * columns) columns (λ k. f (k / columns) (k % columns)) ∙ ap (λ (l : List A). grid i columns f ++ l) row)
-
--- ---- filling
-
--- the rule by the place, rows first
-abbrev pub cell : {A : Type 0} → (ℕ → ℕ → A) → ℕ → ℕ → A
-cell f columns k = f (k / columns) (k % columns)
-
--- one row more
-pub row-whole : {A : Type 0} (f : ℕ → ℕ → A) (columns i : ℕ) {j : ℕ} {given began out : List A} → Extends j (i * columns) (f i) began out → j ≡ columns
-    → Filled (cell f columns) (i * columns) given began → Filled (cell f columns) ((i + 1) * columns) given out
-row-whole f columns i {j} {given} x e h =
-    let q : (i + 1) * columns ≡ i * columns + j = add-mul i 1 columns ∙ omega (arith, one-mul columns) in
-    rw q (x .fills (cell f columns) (λ k l. let b : k < columns = omega arith in rw (digits-div i b, digits-mod i b)) given h)

@@ -9,11 +9,11 @@ abbrev pub over : {A : Type 0} → List A → List A → List A
 over list lent = list ++ drop (length list) lent
 
 -- the list stands at the front of what was lent, and the rest is as it was. Of an empty list: nothing is written.
-pub record AtFront {A : Type 0} (list lent out : List A) : Type 0 where
-  pub len : length out ≡ length lent
-  pub is : out ≡ over list lent
+pub record AtFront {A : Type 0} (list before after : List A) : Type 0 where
+  pub len : length after ≡ length before
+  pub is : after ≡ over list before
 
 -- the list stands from the place `at` on, and all else is as it was
-pub record Placed {A : Type 0} (list : List A) (at : ℕ) (lent out : List A) : Type 0 where
-  pub len : length out ≡ length lent
-  pub is : out ≡ take at lent ++ (list ++ drop (at + length list) lent)
+pub record Placed {A : Type 0} (list : List A) (at : ℕ) (before after : List A) : Type 0 where
+  pub len : length after ≡ length before
+  pub is : after ≡ take at before ++ (list ++ drop (at + length list) before)

@@ -1,10 +1,11 @@
-// Lists given by a rule for each place (specs/Tab), pictures as functions of row and column (specs/Picture), counts by a test (specs/Count), what a
-// call writes into a lent slice (specs/Front), and the loops over a slice that several steps share. Laws for callers:
-// proofs/Fill: a list by its rule.
+// Lists given by a rule for each place (specs/Tab), pictures as functions of row and column (specs/Picture), counts by
+// a test (specs/Count), what a call writes into a lent slice (specs/Front), and the loops over a slice that several
+// steps share. Laws for callers:
+// proofs/Tab: a list by its rule.
 // proofs/Front: a list at the front of a slice, or from a place on, entry by entry, row by row or part by part.
 // proofs/Count: a loop that counts.
-// proofs/Part: a part of a list, and a slice that is filled part by part.
-// proofs/Grid: a grid row by row.
+// proofs/Part: a part of a list, and a part that is lent.
+// proofs/Grid: a grid row by row, and the row and the column of a place.
 // proofs/Picture: a point as a number, and the flipped picture.
 ghost use mathlib.Core.Path.{_≡_};
 ghost use mathlib.Core.List.{[], _∷_};

@@ -13,14 +13,14 @@ use Rattle.board.proofs.Sides.{sides-in, passed}
 use Rattle.load.specs.declared.Loaded.{Loaded}
 use Rattle.load.specs.Load.{loadAnswer, LoadGives}
 
-pub record Fit (h w pixels planes : ℕ) : Type 0 where
+pub record Loadable (h w pixels planes : ℕ) : Type 0 where
   pub sides : SidesIn leastSide h w
   pub pixels-in : 4 * (h * w) ≤ pixels
   pub planes-in : 3 * (h * w) ≤ planes
 
-pub fit : (h w pixels planes : ℕ) → loadAnswer h w pixels planes ≡ 0 → Fit h w pixels planes
+pub loadable : (h w pixels planes : ℕ) → loadAnswer h w pixels planes ≡ 0 → Loadable h w pixels planes
 unfolding loadAnswer
-fit h w pixels planes e =
+loadable h w pixels planes e =
     let a = passed (sidesOutside leastSide h w) 0 _ e in
     let b = passed (ltb pixels (4 * (h * w))) 1 _ (a .1) in
     let c = passed (ltb planes (3 * (h * w))) 2 _ (b .1) in

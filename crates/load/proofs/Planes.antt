@@ -4,7 +4,7 @@ use mathlib.Core.Path.{_≡_, refl, sym, ap, _∙_}
 use mathlib.Core.List.{List, _++_}
 use mathlib.Core.Bool.{Bool, true, false}
 use mathlib.Core.Logic.{_⊎_, inl, inr, ⊎-elim}
-use native.Mathlib.Nat.{eq-or-lt-of-le, mod-lt, div-add-mod', div-lt-iff-lt-mul}
+use native.Mathlib.Nat.{eq-or-lt-of-le, div-add-mod'}
 use native.Mathlib.Omega.{arith}
 use borrow.Author.Tests.{leb-true, leb-false}
 use lib.Dec.{leb}
@@ -12,8 +12,9 @@ use lib.ListN.{length, set, getD, drop, length-append, length-drop, length-set}
 use lib.Seq.{getD-set-same, getD-set-other, ext-getD}
 use Rattle.lists.specs.Front.{AtFront}
 use Rattle.lists.specs.Tab.{grid}
-use Rattle.lists.proofs.Fill.{length-tabFrom, tab-within, tab-beyond}
-use Rattle.lists.proofs.Front.{front-by}
+use Rattle.lists.proofs.Tab.{length-tabFrom, getD-tab}
+use Rattle.lists.proofs.Front.{front-by, front-within, front-beyond}
+use Rattle.lists.proofs.Grid.{row-column}
 
 module _ {A : Type 0} (z : A) (g : ℕ → ℕ → A) (n : ℕ) where
   -- the first i places of each plane have their value, and what lies past the planes is as it was
@@ -76,13 +77,22 @@ module _ {A : Type 0} (z : A) (g : ℕ → ℕ → A) (n : ℕ) where
       }
 
   -- all places: the planes one after another, then what was there
-  pub laid-all : {d out : List A} → 0 < n → Laid n d out → 3 * n ≤ length d → AtFront (grid 3 n g) d out
-  laid-all {d} {out} pos h f =
-      front-by (3 * n) (length-tabFrom 0 (3 * n) _) f
-      (ext-getD z out (grid 3 n g ++ drop (3 * n) d)
+  pub laid-all : {d out : List A} → Laid n d out → 3 * n ≤ length d → AtFront (grid 3 n g) d out
+  laid-all {d} {out} h f =
+      front-by (3 * n) long f
+      (ext-getD z out (list ++ drop (3 * n) d)
       (h .len ∙ sym (simp (length-append, length-tabFrom, length-drop) (omega arith)))
-      (λ r s. ⊎-elim (λ b. h .rest r b ∙ sym (tab-beyond z (λ k. g (k / n) (k % n)) (3 * n) r d b)) (λ b. within r b) (le-or-lt (3 * n) r)))
+      (λ r s. ⊎-elim (λ b. h .rest r b ∙ sym (front-beyond z r whole (rw long b))) (λ b. within r b) (le-or-lt (3 * n) r)))
     where
+      list : List A
+      list = grid 3 n g
+
+      long : length list ≡ 3 * n
+      long = length-tabFrom 0 (3 * n) (λ k. g (k / n) (k % n))
+
+      whole : AtFront list d (list ++ drop (3 * n) d)
+      whole = front-by (3 * n) long f refl
+
       le-or-lt : (a b : ℕ) → (a ≤ b) ⊎ (b < a)
       le-or-lt a b = go (leb a b) refl
         where
@@ -90,7 +100,8 @@ module _ {A : Type 0} (z : A) (g : ℕ → ℕ → A) (n : ℕ) where
           go true e = inl (leb-true a b e)
           go false e = inr (leb-false a b e)
 
-      within : (r : ℕ) → r < 3 * n → getD out r z ≡ getD (grid 3 n g ++ drop (3 * n) d) r z
+      within : (r : ℕ) → r < 3 * n → getD out r z ≡ getD (list ++ drop (3 * n) d) r z
       within r b =
-          ap (λ (k : ℕ). getD out k z) (sym (div-add-mod' r n)) ∙ h .done (r / n) (r % n) (div-lt-iff-lt-mul pos .1 b) (mod-lt r pos)
-          ∙ sym (tab-within z (λ k. g (k / n) (k % n)) (3 * n) r (drop (3 * n) d) b)
+          let at = row-column 3 n r b in
+          ap (λ (k : ℕ). getD out k z) (sym (div-add-mod' r n)) ∙ h .done (r / n) (r % n) (at .0) (at .1)
+          ∙ sym (front-within z r whole (rw long b) ∙ getD-tab (3 * n) r (λ k. g (k / n) (k % n)) z b)

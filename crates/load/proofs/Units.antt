@@ -5,14 +5,14 @@ use mathlib.Core.Bool.{Bool, true, false, cond, true≢false}
 use native.Mathlib.Nat.{mul-one, zero-mul, mul-pos, lt-irrefl}
 use native.Mathlib.Omega.{arith}
 use borrow.Author.Tests.{ne-eqb}
-use lib.Dec.{T, ltb}
+use lib.Dec.{ltb}
 use lib.IntN.{pos}
 use lib.Ieee.{Float, nan, inf, fin, binary32, up, down, round, div, ofInt, ofBits, le, units, odd}
 use lib.Ieee.Fits.{down-pos, round-is, round-fits}
 use lib.Ieee.Exact.{HasValue}
 use lib.Ieee.Order.{round-mono, transfer}
 use Rattle.binary32.specs.Binary32.{float, unit}
-use Rattle.binary32.proofs.Order.{NonNegative}
+use Rattle.binary32.proofs.Order.{NonNegative, is-true}
 use Rattle.binary32.proofs.Plain.{Plain, at-most-bits}
 use Rattle.binary32.proofs.Values.{whole-value}
 use Rattle.load.specs.Load.{mostByte, level}
@@ -33,10 +33,6 @@ units-positive q k = go (ltb (q * 2 ^ k) (2 ^ 277))
 
 round-positive : (a b : ℕ) → NonNegative (round binary32 false a b)
 round-positive a b = subst NonNegative (sym (round-is binary32 false a b)) (units-positive _ _)
-
-is-true : (b : Bool) → T b → b ≡ true
-is-true true t = refl
-is-true false t = absurd t
 
 one-is : round binary32 false 1 1 ≡ fin false 1 (pos 0)
 unfolding round

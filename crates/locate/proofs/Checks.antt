@@ -2,10 +2,9 @@
 use Prim.Native.Nat.{ℕ, _+_, _*_}
 use mathlib.Core.Path.{_≡_, refl}
 use mathlib.Core.Bool.{false}
-use mathlib.Core.List.{List, []}
+use mathlib.Core.List.{[]}
 use borrow.Author.Tests.{ltb-false}
 use lib.Dec.{ltb}
-use lib.Ieee.{Float}
 use lib.ListN.{length}
 use Rattle.board.specs.declared.Board.{Board}
 use Rattle.board.specs.Board.{leastSide}
@@ -13,16 +12,17 @@ use Rattle.board.specs.Planes.{FitPlanes}
 use Rattle.board.proofs.Sides.{neither}
 use Rattle.board.proofs.Planes.{planes-fit}
 use Rattle.locate.specs.Locate.{Lent, lent, slicesShort, checked}
-use Rattle.locate.specs.Steps.{Room}
+use Rattle.locate.specs.Steps.{NoneShort}
 
 -- the planes play no part in whether another slice is short
-pub short-same : (h w : ℕ) (s : Lent) → slicesShort h w (lent [] (s .edges) (s .scores) (s .scratch-f32) (s .scratch-u8) (s .scratch-u32)) ≡ slicesShort h w s
+pub short-same : (h w : ℕ) (s : Lent)
+    → slicesShort h w (lent [] (s .edges) (s .scores) (s .scratch-f32) (s .scratch-u8) (s .scratch-u32)) ≡ slicesShort h w s
 unfolding slicesShort
 short-same h w s = refl
 
-pub room : (h w : ℕ) (s : Lent) → slicesShort h w s ≡ false → Room h w s
+pub none-short : (h w : ℕ) (s : Lent) → slicesShort h w s ≡ false → NoneShort h w s
 unfolding slicesShort
-room h w s e =
+none-short h w s e =
     let a = neither (ltb (length (s .edges)) (h * w)) _ e in
     let b = neither (ltb (length (s .scores)) (h + w)) _ (a .1) in
     let c = neither (ltb (length (s .scratch-f32)) (h * w)) _ (b .1) in
@@ -36,7 +36,8 @@ room h w s e =
     }
 
 -- all is fit for the work
-pub fit : (b : Board) (s : Lent) → checked b s ≡ 0 → FitPlanes leastSide (b .height) (b .width) (s .planes) × Room (b .height) (b .width) s
+pub fit : (b : Board) (s : Lent) → checked b s ≡ 0
+    → FitPlanes leastSide (b .height) (b .width) (s .planes) × NoneShort (b .height) (b .width) s
 fit b s e =
     let f = planes-fit leastSide (b .height) (b .width) (s .planes) (slicesShort (b .height) (b .width) s) e in
-    (f .0, room (b .height) (b .width) s (f .1))
+    (f .0, none-short (b .height) (b .width) s (f .1))

@@ -1,27 +1,26 @@
 -- The promise follows from what locating gives. Assumes nothing.
-use Prim.Native.Nat.{ℕ, _+_, _≤_, _<_}
-use mathlib.Core.Path.{_≡_, refl, sym, ap, _∙_}
+use Prim.Native.Nat.{ℕ, _+_, _<_}
+use mathlib.Core.Path.{_≡_, refl, _∙_}
 use mathlib.Core.Bool.{Bool, true, false, cond}
 use mathlib.Core.List.{List, [], _++_}
 use native.Mathlib.Omega.{arith}
 use borrow.Author.Tests.{eqb-true, eqb-false}
-use lib.Dec.{eqb}
 use lib.ListN.{length, getD, length-append, List·getD-append}
 use lib.Seq.{getD-append-add}
 use Rattle.lists.specs.Front.{AtFront}
 use Rattle.lists.proofs.Front.{front-within}
 use Rattle.board.specs.declared.Board.{Board}
 use Rattle.board.specs.Board.{resized}
-use Rattle.strips.specs.Strip.{places, columnScores, rowScores}
+use Rattle.strips.specs.Strip.{places}
 use Rattle.strips.proofs.Scores.{count-is, length-scores}
 use Rattle.reading.specs.declared.Quarters.{Quarters}
 use Rattle.reading.specs.declared.Quarters.the-variants.{Read, Refused}
 use Rattle.reading.specs.Reading.{quartersOf}
-use Rattle.axes.specs.Axes.{Short}
-use Rattle.axes.proofs.Scoring.{scores-fit, quarters-short}
+use Rattle.axes.specs.Axes.{Fits32}
+use Rattle.axes.proofs.Scoring.{scores-fit, quarters-fit}
 use Rattle.lines.specs.Lines.{InLimits}
 use Rattle.locate.specs.declared.Located.{Located}
-use Rattle.locate.specs.Reference.{Reference, columnAxis, rowAxis, referenceOf}
+use Rattle.locate.specs.Reference.{Reference, columnAxis, rowAxis}
 use Rattle.locate.specs.Locate.{Lent, checked, passes, declined, joined, found, scoresOf, referenceFor, LocateGives}
 use Rattle.locate.specs.Promise.{Optimal, Promise}
 use Rattle.locate.proofs.Checks.{fit}
@@ -36,7 +35,8 @@ module _ (g : Reference) (s : Scored g) where
   rows-long = rw (s .rows-are) (length-scores _ _ _ _ _ ∙ count-is (g .bounds .«r_1») (g .bounds .«r_2»))
 
   columns-fit : InLimits (g .columns)
-  columns-fit = rw (s .columns-are) (scores-fit (g .picture) _ _ _ _ (s .columns-wide) (omega (arith, s .columns-end)) (omega (arith, s .rows-end)))
+  columns-fit =
+      rw (s .columns-are) (scores-fit (g .picture) _ _ _ _ (s .columns-wide) (omega (arith, s .columns-end)) (omega (arith, s .rows-end)))
 
   rows-fit : InLimits (g .rows)
   rows-fit = rw (s .rows-are) (scores-fit _ _ _ _ _ (s .rows-wide) (omega (arith, s .rows-end)) (omega (arith, s .columns-end)))
@@ -47,7 +47,8 @@ module _ (g : Reference) (s : Scored g) where
     across-entry i l = front-within 0 i x (simp length-append (omega arith)) ∙ List·getD-append (g .columns) (g .rows) 0 i l
 
     down-entry : (i : ℕ) → i < length (g .rows) → getD after (length (g .columns) + i) 0 ≡ getD (g .rows) i 0
-    down-entry i l = front-within 0 (length (g .columns) + i) x (simp length-append (omega arith)) ∙ getD-append-add (g .columns) (g .rows) i 0
+    down-entry i l =
+        front-within 0 (length (g .columns) + i) x (simp length-append (omega arith)) ∙ getD-append-add (g .columns) (g .rows) i 0
 
     pub optimal : (b : Board) (n q offset count voted q' offset' count' voted' : ℕ) → quartersOf (g .columns) ≡ Read q offset count voted
         → quartersOf (g .rows) ≡ Read q' offset' count' voted'
@@ -65,14 +66,17 @@ module _ (g : Reference) (s : Scored g) where
         }
 
     -- by the readings: the answer is 0 only where both were accepted
-    pub optimal-by : (b : Board) (n : ℕ) (columns rows : Quarters) → quartersOf (g .columns) ≡ columns → quartersOf (g .rows) ≡ rows → Short columns
+    pub optimal-by : (b : Board) (n : ℕ) (columns rows : Quarters) → quartersOf (g .columns) ≡ columns → quartersOf (g .rows) ≡ rows
+        → Fits32 columns
         → joined b n (g .bounds) columns rows .answer ≡ 0 → Optimal g (joined b n (g .bounds) columns rows) after
     optimal-by b n (Refused k) rows e f t z = absurd (omega (arith, t .0))
     optimal-by b n (Read q offset count voted) (Refused k) e f t z = absurd (omega arith)
-    optimal-by b n (Read q offset count voted) (Read q' offset' count' voted') e f t z = optimal b n q offset count voted q' offset' count' voted' e f
+    optimal-by b n (Read q offset count voted) (Read q' offset' count' voted') e f t z =
+        optimal b n q offset count voted q' offset' count' voted' e f
 
 -- what locating hands back where the checks passed and the answer is 0
-found-optimal : (b : Board) (g : Reference) (before after : List ℕ) → (g .last .tooSmall ≡ false → Scored g) → AtFront (scoresOf g) before after
+found-optimal : (b : Board) (g : Reference) (before after : List ℕ) → (g .last .tooSmall ≡ false → Scored g)
+    → AtFront (scoresOf g) before after
     → found b g .answer ≡ 0 → Optimal g (found b g) after
 found-optimal b g before after s x z = go (g .last .tooSmall) refl x z
   where
@@ -88,7 +92,7 @@ found-optimal b g before after s x z = go (g .last .tooSmall) refl x z
     go : (t : Bool) → g .last .tooSmall ≡ t → AtFront (cond t [] (g .columns ++ g .rows)) before after
         → cond t (declined sized 5 n) read .answer ≡ 0 → Optimal g (cond t (declined sized 5 n) read) after
     go true e y w = absurd (omega arith)
-    go false e y w = optimal-by g (s e) y sized n _ _ refl refl (quarters-short (g .columns) (columns-fit g (s e))) w
+    go false e y w = optimal-by g (s e) y sized n _ _ refl refl (quarters-fit (g .columns) (columns-fit g (s e))) w
 
 pub promised : (b : Board) (before : Lent) (r : Located) (after : Lent) → LocateGives b before r after → Promise b before r after
 promised b before r after g = go (passes b before) refl (g .located-is) (g .scores-are)
@@ -103,7 +107,10 @@ promised b before r after g = go (passes b before) refl (g .located-is) (g .scor
         let f = fit b before z .0 in
         let s : ref .last .tooSmall ≡ false → Scored ref =
         λ q. scored (b .height) (b .width) (before .planes) f (rw (last-is (b .height) (b .width) (before .planes)) at q) in
-        record { answered = (λ a. (z, rw p at a), λ y a. rw p a); optimal = λ a. rw p (found-optimal b ref (before .scores) (after .scores) s x (rw p at a)) }
+        record {
+          answered = (λ a. (z, rw p at a), λ y a. rw p a);
+          optimal = λ a. rw p (found-optimal b ref (before .scores) (after .scores) s x (rw p at a));
+        }
     go false e p x =
         let n = eqb-false (checked b before) 0 e in
         record { answered = (λ a. absurd (n (rw p at a)), λ y a. absurd (n y)); optimal = λ a. absurd (n (rw p at a)) }

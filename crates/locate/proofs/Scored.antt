@@ -1,5 +1,5 @@
--- The reference of a call whose loop of narrowings ended well: its bounds are wide and lie inside the pictures, and its lists are the bounds' scores.
--- Assumes nothing.
+-- The reference of a call whose loop of narrowings ended well: its bounds are wide and lie inside the pictures, and
+-- its lists are the bounds' scores. Assumes nothing.
 use Prim.Native.Nat.{ℕ, _+_, _-_, _≤_}
 use mathlib.Core.Path.{_≡_, refl}
 use mathlib.Core.Bool.{false}
@@ -11,7 +11,7 @@ use Rattle.board.specs.Board.{leastSide}
 use Rattle.board.specs.Planes.{FitPlanes}
 use Rattle.bounds.proofs.Laws.{Wide, within, wide}
 use Rattle.narrowings.specs.Loop.{Stage, first, pictureIn, boundsIn, thin, lastOf}
-use Rattle.narrowings.proofs.Turns.{Sound, spans, sound-around, last-sound}
+use Rattle.narrowings.proofs.Turns.{by-three, Sound, spans, sound-around, last-sound}
 use Rattle.strips.specs.Strip.{columnScores, rowScores}
 use Rattle.locate.specs.Reference.{Reference, referenceOf}
 
@@ -22,9 +22,6 @@ pub record Scored (g : Reference) : Type 0 where
   pub columns-end : g .bounds .«c_2» ≤ 4094
   pub columns-are : g .columns ≡ columnScores (g .picture) (g .bounds)
   pub rows-are : g .rows ≡ rowScores (g .picture) (g .bounds)
-
-two : 2 ≤ 3
-two = omega arith
 
 module _ (h w : ℕ) (planes : List Float) where
   -- the fields of the reference, each by itself
@@ -37,10 +34,10 @@ module _ (h w : ℕ) (planes : List Float) where
     l = lastOf 3 h w planes .stage
 
     pub sound : Sound h w (length planes) l
-    sound = last-sound 3 two h w planes f ends .0
+    sound = last-sound 3 by-three h w planes f ends .0
 
     pub not-thin : thin (l .height) (l .width) (boundsIn l) ≡ false
-    not-thin = last-sound 3 two h w planes f ends .1
+    not-thin = last-sound 3 by-three h w planes f ends .1
 
     -- both spans of the widened bounds are at least 4, and they lie inside the last picture
     pub wide-enough : Wide (l .height - 2) (l .width - 2) (referenceOf h w planes .bounds)

@@ -1,15 +1,12 @@
 -- Each way out of the work and of the call: what its steps leave is what locating gives. Assumes nothing.
-use Prim.Native.Nat.{ℕ, _+_, _-_, _*_, _≤_}
+use Prim.Native.Nat.{ℕ, _+_, _-_, _*_}
 use mathlib.Core.Path.{_≡_, refl, sym, _∙_}
-use mathlib.Core.Bool.{Bool, true, false, cond}
-use mathlib.Core.List.{List, []}
-use native.Mathlib.Omega.{arith}
+use mathlib.Core.Bool.{true, false}
+use mathlib.Core.List.{List}
 use borrow.Author.Tests.{eq-eqb, ne-eqb}
-use lib.Dec.{eqb}
 use lib.Ieee.{Float}
 use lib.ListN.{length, take, drop}
 use Rattle.lists.specs.Front.{AtFront}
-use Rattle.lists.specs.Picture.{points}
 use Rattle.lists.proofs.Front.{front-none}
 use Rattle.board.specs.declared.Board.{Board}
 use Rattle.board.specs.declared.Bounds.{Bounds}
@@ -17,22 +14,22 @@ use Rattle.board.specs.Board.{leastSide, resized}
 use Rattle.board.specs.Planes.{FitPlanes}
 use Rattle.edges.specs.Edges.{edges}
 use Rattle.edges.proofs.Laws.{edge-le}
-use Rattle.bounds.specs.Bounds.{widen}
 use Rattle.bounds.proofs.Laws as Bounds
 use Rattle.narrowings.specs.declared.Narrowed.{Narrowed}
 use Rattle.narrowings.specs.Loop.{first, boundsIn, Last, lastOf}
 use Rattle.narrowings.specs.Steps.{Looks, Narrows}
 use Rattle.narrowings.proofs.Looking.{edges-in, edges-part}
-use Rattle.narrowings.proofs.Turns.{Sound, spans, sound-around}
+use Rattle.narrowings.proofs.Turns.{spans, sound-around}
 use Rattle.locate.specs.declared.Located.{Located}
-use Rattle.locate.specs.Reference.{Reference, referenceOf}
-use Rattle.locate.specs.Locate.{Lent, lent, checked, passes, declined, found, scoresOf, referenceFor, LocateGives}
+use Rattle.locate.specs.Reference.{referenceOf}
+use Rattle.locate.specs.Locate.{Lent, lent, checked, passes, declined, referenceFor, LocateGives}
 use Rattle.locate.specs.Promise.{Promise}
-use Rattle.locate.specs.Steps.{Room, Leads, ReadsFrom, Works}
+use Rattle.locate.specs.Steps.{NoneShort, Leads, ReadsFrom, Works}
 use Rattle.locate.proofs.Promises.{promised}
-use Rattle.locate.proofs.Scored.{sound, not-thin, last-is}
+use Rattle.locate.proofs.Scored.{sound, not-thin}
 
-module _ (b : Board) (before : Lent) (f : FitPlanes leastSide (b .height) (b .width) (before .planes)) (room : Room (b .height) (b .width) before)
+module _ (b : Board) (before : Lent) (f : FitPlanes leastSide (b .height) (b .width) (before .planes))
+    (room : NoneShort (b .height) (b .width) before)
     {l : Narrowed} {start : Bounds} {planes' : List Float} {edges' : List ℕ}
     (looks : Looks (first (b .height) (b .width) (before .planes)) (before .edges) start edges')
     (narrows : Narrows (lastOf 3 (b .height) (b .width) (before .planes)) l planes') where
@@ -57,7 +54,8 @@ module _ (b : Board) (before : Lent) (f : FitPlanes leastSide (b .height) (b .wi
   edges-left = looks .bytes-are
 
   -- the screen got too small
-  pub works-small : {r : Located} (f32 : List Float) (u8 u32 : List ℕ) → l .small ≡ true → r ≡ declined (resized b (l .height) (l .width)) 5 (l .narrowed)
+  pub works-small : {r : Located} (f32 : List Float) (u8 u32 : List ℕ) → l .small ≡ true
+      → r ≡ declined (resized b (l .height) (l .width)) 5 (l .narrowed)
       → Works b before r (lent planes' edges' (before .scores) f32 u8 u32)
   unfolding referenceOf
   works-small f32 u8 u32 ok e =
@@ -100,11 +98,17 @@ module _ (b : Board) (before : Lent) (f : FitPlanes leastSide (b .height) (b .wi
         }
 
     pub works-read : {r : Located} {scores' : List ℕ} (f32 : List Float) (u8 u32 : List ℕ)
-        → ReadsFrom b l (take ((h - 2) * (w - 2)) edges') (before .scores) r scores' → Works b before r (lent planes' edges' scores' f32 u8 u32)
+        → ReadsFrom b l (take ((h - 2) * (w - 2)) edges') (before .scores) r scores'
+        → Works b before r (lent planes' edges' scores' f32 u8 u32)
     unfolding referenceOf
     works-read {r} {scores'} f32 u8 u32 e =
         let is = rw (picture-is, narrows .height-is, narrows .width-is, narrows .narrowed-is, narrows .bounds-are ok) at e in
-        record { located-is = rw large (is .located-is); planes-are = planes-left; edges-are = edges-left; scores-are = rw large (is .scores-are) }
+        record {
+          located-is = rw large (is .located-is);
+          planes-are = planes-left;
+          edges-are = edges-left;
+          scores-are = rw large (is .scores-are);
+        }
 
 -- ---- the call: a refusal by the checks, or the work, each with the promise
 

@@ -95,8 +95,8 @@ scoresOf g = cond (g .last .tooSmall) [] (g .columns ++ g .rows)
 abbrev pub referenceFor : Board → Lent → Reference
 referenceFor b s = referenceOf (b .height) (b .width) (s .planes)
 
--- What a call answers and leaves. Where the checks refuse, the record and all slices but scratch are as given. Scratch is free up to 01's lengths;
--- entries further on keep their content.
+-- What a call answers and leaves. Where the checks refuse, the record and all slices but scratch are as given. Scratch
+-- is free up to 01's lengths; entries further on keep their content.
 pub record LocateGives (b : Board) (before : Lent) (r : Located) (after : Lent) : Type 0 where
   pub located-is : r ≡ cond (passes b before) (found b (referenceFor b before)) (declined b (checked b before) 0)
   pub planes-are : after .planes ≡ cond (passes b before) (referenceFor b before .last .stage .planes) (before .planes)

@@ -34,7 +34,13 @@ columnsHanded r scores =
 -- row scores stand behind so many column scores
 abbrev pub rowsHanded : ℕ → Located → List ℕ → Handed
 rowsHanded n r scores =
-    record { score = λ i. getD scores (n + i) 0; offset = r .board .r0; quarters = r .quarterr; votes = r .votesr; pitch = r .board .pixelr }
+    record {
+      score = λ i. getD scores (n + i) 0;
+      offset = r .board .r0;
+      quarters = r .quarterr;
+      votes = r .votesr;
+      pitch = r .board .pixelr;
+    }
 
 -- scored place i of an axis
 abbrev pub placeAt : Axis → ℕ → Place

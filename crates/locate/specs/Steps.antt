@@ -3,7 +3,6 @@ use Prim.Native.Nat.{ℕ, _+_, _-_, _*_, _/_, _≤_, _<_}
 use mathlib.Core.Path.{_≡_}
 use mathlib.Core.Bool.{Bool}
 use mathlib.Core.List.{List, _++_}
-use lib.Ieee.{Float}
 use lib.ListN.{length, getD, take}
 use Rattle.lists.specs.Front.{AtFront}
 use Rattle.lists.specs.Picture.{points}
@@ -18,7 +17,7 @@ use Rattle.locate.specs.declared.Located.{Located}
 use Rattle.locate.specs.Locate.{Lent, joined, found, scoresOf, referenceFor}
 
 -- no slice but the planes is short
-pub record Room (h w : ℕ) (s : Lent) : Type 0 where
+pub record NoneShort (h w : ℕ) (s : Lent) : Type 0 where
   pub edges-in : h * w ≤ length (s .edges)
   pub scores-in : h + w ≤ length (s .scores)
   pub f32-in : h * w ≤ length (s .scratch-f32)
@@ -43,7 +42,8 @@ pub record Leads (h w : ℕ) (l : Narrowed) (edges : List ℕ) (scores bytes wor
   pub words-in : 4 * (h + w) ≤ words
 
 -- the scores of the picture E over the bounds, and what their readings make of the record
-pub record ReadsOn (E : ℕ → ℕ → Bool) (b : Board) (narrowed : ℕ) (bounds : Bounds) (before : List ℕ) (r : Located) (after : List ℕ) : Type 0 where
+pub record ReadsOn (E : ℕ → ℕ → Bool) (b : Board) (narrowed : ℕ) (bounds : Bounds) (before : List ℕ) (r : Located) (after : List ℕ)
+    : Type 0 where
   pub located-is : r ≡ joined b narrowed bounds (quartersOf (columnScores E bounds)) (quartersOf (rowScores E bounds))
   pub scores-are : AtFront (columnScores E bounds ++ rowScores E bounds) before after
 

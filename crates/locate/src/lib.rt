@@ -1,6 +1,7 @@
-// Locating the board (01, "Locating"). It refuses with 1, 3, 4 and 5 to 9. Definitions: specs/Reference (what it is held to, from the sides and
-// planes as handed in), specs/Locate (what a call hands back and leaves), specs/Promise (on the same edge picture no walk and no vote beats what it
-// hands back). The loop of narrowings is crate narrowings, the scores and their readings crate axes.
+// Locating the board (01, "Locating"). It refuses with 1, 3, 4 and 5 to 9. Definitions: specs/Reference (what it is
+// held to, from the sides and planes as handed in), specs/Locate (what a call hands back and leaves), specs/Promise (on
+// the same edge picture no walk and no vote beats what it hands back). The loop of narrowings is crate narrowings, the
+// scores and their readings crate axes.
 ghost use mathlib.Core.Path.{_≡_};
 ghost use mathlib.Core.Bool.{false};
 ghost use mathlib.Core.List.{[]};
@@ -8,11 +9,11 @@ ghost use Prim.Native.Nat.{_-_, _*_, _≤_};
 ghost use lib.ListN.{length, take};
 ghost use Rattle.board.specs.Board.{leastSide, sidesOutside};
 ghost use Rattle.board.specs.Planes.{FitPlanes};
-ghost use Rattle.axes.specs.Axes.{Short};
+ghost use Rattle.axes.specs.Axes.{Fits32};
 ghost use Rattle.locate.specs.Locate as Spec;
 ghost use Rattle.locate.specs.Locate.{lent, slicesShort, checked, LocateGives};
 ghost use Rattle.locate.specs.Promise.{Promise};
-ghost use Rattle.locate.specs.Steps.{Room, Leads, ReadsFrom, Works};
+ghost use Rattle.locate.specs.Steps.{NoneShort, Leads, ReadsFrom, Works};
 use board::Board;
 use board::Bounds;
 use board::Spacing;
@@ -154,7 +155,7 @@ fn accepted(
 
 // Both readings together: columns answer first, rows with 2 more.
 fn joined(b: Board, narrowed: u32, bounds: Bounds, columns: Quarters, rows: Quarters) -> Located
-    requires { ⌜ Short columns × Short rows ⌝ }
+    requires { ⌜ Fits32 columns × Fits32 rows ⌝ }
     ensures { λ r. ⌜ r ≡ Spec.joined b narrowed bounds columns rows ⌝ }
 {
     match columns {
@@ -192,7 +193,8 @@ fn joined(b: Board, narrowed: u32, bounds: Bounds, columns: Quarters, rows: Quar
     }
 }
 
-// What follows the loop: the last bounds are widened on the first edge picture, which stands at the front of `edges`, and both axes are read.
+// What follows the loop: the last bounds are widened on the first edge picture, which stands at the front of `edges`,
+// and both axes are read.
 fn read_from(
     b: Board,
     l: Narrowed,
@@ -201,7 +203,9 @@ fn read_from(
     scratch_u8: &mut [u8],
     scratch_u32: &mut [u32],
 ) -> Located
-    requires { ⌜ Leads (b .height) (b .width) l (now edges) (length (now scores)) (length (now «scratch_u8»)) (length (now «scratch_u32»)) ⌝ }
+    requires { let bytes = length (now «scratch_u8») in
+        let words = length (now «scratch_u32») in
+        ⌜ Leads (b .height) (b .width) l (now edges) (length (now scores)) bytes words ⌝ }
     ensures { λ r.
         let picture = take ((b .height - 2) * (b .width - 2)) (now (edges .entry)) in
         ⌜ ReadsFrom b l picture (now (scores .entry)) r (now (scores .exit)) ⌝ }
@@ -233,7 +237,7 @@ pub fn work(
 ) -> Located
     requires { ⌜ FitPlanes leastSide (b .height) (b .width) (now planes) ⌝ }
     requires { let s = lent (now planes) (now edges) (now scores) (now «scratch_f32») (now «scratch_u8») (now «scratch_u32») in
-        ⌜ Room (b .height) (b .width) s ⌝ }
+        ⌜ NoneShort (b .height) (b .width) s ⌝ }
     ensures { λ r.
         let before = lent (now (planes .entry)) (now (edges .entry)) (now (scores .entry))
         (now («scratch_f32» .entry)) (now («scratch_u8» .entry)) (now («scratch_u32» .entry)) in

@@ -8,14 +8,14 @@ use native.Mathlib.Omega.{arith}
 use lib.Ieee.{Float, nan, binary32, ofBits, toBits}
 use lib.ListN.{length, take, replicate, length-append, length-drop, length-replicate}
 use lib.Seq.{take-at}
-use Rattle.lists.proofs.Fill.{length-tabFrom, getD-tab}
+use Rattle.lists.proofs.Tab.{length-tabFrom, getD-tab}
+use Rattle.lists.proofs.Grid.{row-column}
 use Rattle.rank.proofs.Members.{entry-has}
 use Rattle.board.specs.Screen.{packed, view}
 use Rattle.board.specs.Planes.{allUnits, FitPlanes}
+use Rattle.board.proofs.Packed.{length-packed, packed-units}
 use Rattle.narrow.specs.Narrow.{block, median, narrowed, narrow}
-use Rattle.narrow.proofs.AllUnits.{Small, units-all}
-use Rattle.narrow.proofs.Packed.{row-column, point-in, pointAt, length-packed}
-use Rattle.narrow.proofs.Block.{unit-at, block-lt}
+use Rattle.narrow.proofs.Block.{IsUnit, unit-at, block-lt}
 
 -- the middle one of a block is one of it
 median-has : (P : Float → Type 0) (f : ℕ) → 0 < f → (a : ℕ → ℕ → Float) (i j : ℕ) →
@@ -39,14 +39,8 @@ narrow-length f h w planes l = simp (length-append, length-packed, length-replic
 narrowed-units : (f h w : ℕ) (planes : List Float) → 0 < f → FitPlanes 0 h w planes
     → allUnits (packed (narrowed f (view h w planes))) ≡ true
 narrowed-units f h w planes l p =
-    let s = narrowed f (view h w planes) in
-    let n = length-packed s in
-    units-all (packed s)
-    (λ q b.
-    let below : q < 3 * (h / f * (w / f)) = omega (arith, n) in
-    let at = point-in (h / f) (w / f) q below in
-    rw (getD-tab (3 * (h / f * (w / f))) q (pointAt s) nan below)
-    (median-has Small f l (view h w planes .px _) _ _ (λ u v d e. unit-at p _ (block-lt h w (at .0) (at .1) (at .2) d e))))
+    packed-units (narrowed f (view h w planes))
+    (λ k i j a b c. median-has IsUnit f l (view h w planes .px k) i j (λ u v d e. unit-at p _ (block-lt h w a b c d e)))
 
 -- sides that are not too small stay within the limits, and what they hold can be narrowed again
 pub narrow-fit : {h w : ℕ} {planes : List Float} (f : ℕ) → 2 ≤ f → (least : ℕ) → FitPlanes 0 h w planes → least ≤ h / f → least ≤ w / f

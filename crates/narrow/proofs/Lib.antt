@@ -1,4 +1,3 @@
-pub mod AllUnits
 pub mod Block
 pub mod Laws
 pub mod Network

@@ -2,7 +2,6 @@
 use Prim.Native.Nat.{ℕ, _-_, _*_, _≤_}
 use mathlib.Core.Path.{_≡_, refl}
 use mathlib.Core.List.{List}
-use native.Mathlib.Nat.{mul-le-mul}
 use native.Mathlib.Omega.{arith}
 use lib.Ieee.{Float}
 use lib.ListN.{length, take}
@@ -13,15 +12,13 @@ use Rattle.gradient.proofs.Laws.{length-gradients}
 use Rattle.edges.specs.Edges.{threshold, marks, edges}
 use Rattle.edges.proofs.Laws.{edges-of-gradients, length-edges}
 
-pub inner-le : (h w : ℕ) → (h - 2) * (w - 2) ≤ h * w
-inner-le h w = mul-le-mul (omega arith) (omega arith)
-
 module _ (h w : ℕ) (planes : List Float) where
   -- the part of a slice that holds the gradients, and the part that holds the edge picture
   pub gradients-in : {before after : List Float} → AtFront (gradients h w planes) before after → (h - 2) * (w - 2) ≤ length after
   gradients-in x = omega (arith, front-fits x, length-gradients h w planes)
 
-  pub gradients-part : {before after : List Float} → AtFront (gradients h w planes) before after → take ((h - 2) * (w - 2)) after ≡ gradients h w planes
+  pub gradients-part : {before after : List Float} → AtFront (gradients h w planes) before after
+      → take ((h - 2) * (w - 2)) after ≡ gradients h w planes
   gradients-part x = front-part ((h - 2) * (w - 2)) (length-gradients h w planes) x
 
   pub edges-in : {before after : List ℕ} → AtFront (edges h w planes) before after → (h - 2) * (w - 2) ≤ length after

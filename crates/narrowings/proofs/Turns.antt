@@ -1,5 +1,5 @@
--- The loop of narrowings, over the factor: what passes on from screen to screen, one induction for where it ends, and what holds before each turn of
--- the code's loop. Assumes nothing.
+-- The loop of narrowings, over the factor: what passes on from screen to screen, one induction for where it ends, and
+-- what holds before each turn of the code's loop. Assumes nothing.
 use Prim.Native.Nat.{ℕ, zero, suc, _+_, _-_, _*_, _/_, _≤_, _<_}
 use mathlib.Core.Path.{_≡_, refl, _∙_}
 use mathlib.Core.Bool.{Bool, true, false, cond, true≢false}
@@ -18,7 +18,6 @@ use Rattle.board.proofs.Sides.{neither}
 use Rattle.narrow.specs.Narrow.{narrow}
 use Rattle.narrow.proofs.Laws.{smaller, narrow-length, narrow-fit}
 use Rattle.bounds.proofs.Laws.{Around, around}
-use Rattle.narrowings.specs.declared.Narrowed.{Narrowed}
 use Rattle.narrowings.specs.Loop.{Stage, stage, first, pictureIn, boundsIn, thin, small, next, Last, turn, looped, lastOf}
 use Rattle.narrowings.specs.Steps.{Narrows}
 
@@ -52,8 +51,13 @@ pub sound-around : {h w long : ℕ} {s : Stage} → Sound h w long s → Around 
 sound-around {s = s} p = around (pictureIn s) (omega (arith, p .fit .sides .low-h)) (omega (arith, p .fit .sides .low-w))
 
 -- they are in order
-pub ordered : {h w long : ℕ} {s : Stage} → Sound h w long s → (boundsIn s .«r_1» ≤ boundsIn s .«r_2») × (boundsIn s .«c_1» ≤ boundsIn s .«c_2»)
+pub ordered : {h w long : ℕ} {s : Stage} → Sound h w long s
+    → (boundsIn s .«r_1» ≤ boundsIn s .«r_2») × (boundsIn s .«c_1» ≤ boundsIn s .«c_2»)
 ordered p = let a = sound-around p in (omega (arith, a .rows .low, a .rows .high), omega (arith, a .columns .low, a .columns .high))
+
+-- the factor of the code
+pub by-three : 2 ≤ 3
+by-three = omega arith
 
 module _ (f : ℕ) (two : 2 ≤ f) where
   pub sound-next : {h w long : ℕ} {s : Stage} → Sound h w long s → small (s .height / f) (s .width / f) ≡ false → Sound h w long (next f s)
@@ -67,10 +71,12 @@ module _ (f : ℕ) (two : 2 ≤ f) where
         long-is = narrow-length f (s .height) (s .width) (s .planes) (p .fit .there) ∙ p .long-is;
       }
 
-  -- The induction: what holds of a screen, and passes on to a narrowed one that is not small, holds where the loop ends well; and that is not thin.
+  -- The induction: what holds of a screen, and passes on to a narrowed one that is not small, holds where the loop
+  -- ends well; and that is not thin.
   pub ends-well : (P : Stage → Type 0) → ((s : Stage) → P s → small (s .height / f) (s .width / f) ≡ false → P (next f s))
       → (turns : ℕ) (s : Stage) → P s → looped f turns s .tooSmall ≡ false
-      → P (looped f turns s .stage) × (thin (looped f turns s .stage .height) (looped f turns s .stage .width) (boundsIn (looped f turns s .stage)) ≡ false)
+      → P (looped f turns s .stage)
+      × (thin (looped f turns s .stage .height) (looped f turns s .stage .width) (boundsIn (looped f turns s .stage)) ≡ false)
   ends-well P pass zero s p e = absurd (true≢false e)
   ends-well P pass (suc turns) s p e =
       go (thin (s .height) (s .width) (boundsIn s)) refl (small (s .height / f) (s .width / f)) refl (ends-well P pass turns (next f s)) e
@@ -79,7 +85,9 @@ module _ (f : ℕ) (two : 2 ≤ f) where
       Ends l = P (l .stage) × (thin (l .stage .height) (l .stage .width) (boundsIn (l .stage)) ≡ false)
 
       ended : Bool → Bool → Last
-      ended a b = cond a (cond b (record { stage = next f s; tooSmall = true }) (looped f turns (next f s))) (record { stage = s; tooSmall = false })
+      ended a b =
+          cond a (cond b (record { stage = next f s; tooSmall = true }) (looped f turns (next f s)))
+          (record { stage = s; tooSmall = false })
 
       go : (a : Bool) → thin (s .height) (s .width) (boundsIn s) ≡ a → (b : Bool) → small (s .height / f) (s .width / f) ≡ b
           → (P (next f s) → looped f turns (next f s) .tooSmall ≡ false → Ends (looped f turns (next f s)))
@@ -126,26 +134,39 @@ module _ (f : ℕ) (two : 2 ≤ f) where
         → lastOf f h w start ≡ record { stage = next f s; tooSmall = true }
     going-small p q = rw (p, q) at here
 
-    pub going-on : thin (s .height) (s .width) (boundsIn s) ≡ true → small (s .height / f) (s .width / f) ≡ false → Going h w start (next f s)
+    pub going-on : thin (s .height) (s .width) (boundsIn s) ≡ true → small (s .height / f) (s .width / f) ≡ false
+        → Going h w start (next f s)
     going-on p q =
         record {
           turns = some .0;
           same = rw (p, q) at here;
-          enough = omega (arith, g .enough, some .1, div-lt-self {n = s .height} {k = f} (omega (arith, g .sound .fit .sides .low-h)) (omega (arith, two)));
+          enough =
+              let less = div-lt-self {n = s .height} {k = f} (omega (arith, g .sound .fit .sides .low-h)) (omega (arith, two)) in
+              omega (arith, g .enough, some .1, less);
           counted = omega (arith, g .counted, some .1);
           sound = sound-next (g .sound) q;
         }
 
     -- what the code hands back on each way out
     pub narrows-end : {b : Bounds} → b ≡ boundsIn s → thin (s .height) (s .width) b ≡ false
-        → Narrows (lastOf f h w start) (record { height = s .height; width = s .width; narrowed = s .narrowed; small = false; bounds = b }) (s .planes)
+        → Narrows (lastOf f h w start)
+        (record { height = s .height; width = s .width; narrowed = s .narrowed; small = false; bounds = b }) (s .planes)
     narrows-end e p =
         let q = going-end (rw e at p) in
         record { height-is = rw q; width-is = rw q; narrowed-is = rw q; small-is = rw q; planes-are = rw q; bounds-are = λ z. rw q e }
 
-    pub narrows-small : {b : Bounds} {after : List Float} → thin (s .height) (s .width) (boundsIn s) ≡ true → small (s .height / f) (s .width / f) ≡ true
+    pub narrows-small : {b : Bounds} {after : List Float} → thin (s .height) (s .width) (boundsIn s) ≡ true
+        → small (s .height / f) (s .width / f) ≡ true
         → after ≡ narrow f (s .height) (s .width) (s .planes)
-        → Narrows (lastOf f h w start) (record { height = s .height / f; width = s .width / f; narrowed = s .narrowed + 1; small = true; bounds = b }) after
+        → Narrows (lastOf f h w start)
+        (record { height = s .height / f; width = s .width / f; narrowed = s .narrowed + 1; small = true; bounds = b }) after
     narrows-small p q l =
         let e = going-small p q in
-        record { height-is = rw e; width-is = rw e; narrowed-is = rw e; small-is = rw e; planes-are = rw e l; bounds-are = λ z. absurd (true≢false z) }
+        record {
+          height-is = rw e;
+          width-is = rw e;
+          narrowed-is = rw e;
+          small-is = rw e;
+          planes-are = rw e l;
+          bounds-are = λ z. absurd (true≢false z);
+        }

@@ -10,9 +10,9 @@ use Rattle.narrowings.specs.declared.Narrowed.{Narrowed}
 use Rattle.narrowings.specs.Loop.{Stage, edgesIn, boundsIn, Last}
 
 -- the bounds of a screen's edge picture, which stands at the front of the bytes
-pub record Looks (s : Stage) (bytes : List ℕ) (b : Bounds) (after : List ℕ) : Type 0 where
+pub record Looks (s : Stage) (before : List ℕ) (b : Bounds) (after : List ℕ) : Type 0 where
   pub bounds-are : b ≡ boundsIn s
-  pub bytes-are : AtFront (edgesIn s) bytes after
+  pub bytes-are : AtFront (edgesIn s) before after
 
 -- where the loop ends, with the bounds of that picture unless it got too small
 pub record Narrows (last : Last) (r : Narrowed) (after : List Float) : Type 0 where

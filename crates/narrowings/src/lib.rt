@@ -1,5 +1,6 @@
-// The loop of narrowings (01, "Locating", first paragraph): a screen is narrowed until both spans of its bounds are large enough, or until it is
-// too small. Definitions: specs/Loop, over the factor; the code narrows by 3. Laws for callers: proofs/Turns.
+// The loop of narrowings (01, "Locating", first paragraph): a screen is narrowed until both spans of its bounds are
+// large enough, or until it is too small. Definitions: specs/Loop, over the factor; the code narrows by 3. Laws for
+// callers: proofs/Turns.
 ghost use mathlib.Core.Path.{_≡_};
 ghost use Prim.Native.Nat.{_*_, _≤_};
 ghost use lib.ListN.{length};

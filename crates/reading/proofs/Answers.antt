@@ -4,8 +4,8 @@ use mathlib.Core.Path.{_≡_, refl}
 use mathlib.Core.Bool.{Bool, true, false, cond, _||_}
 use mathlib.Core.List.{List}
 use native.Mathlib.Omega.{arith}
-use borrow.Author.Tests.{eq-eqb, ne-eqb, eqb-false, le-leb, lt-leb, leb-false, lt-ltb, le-ltb, ltb-false}
-use lib.Dec.{eqb, leb, ltb}
+use borrow.Author.Tests.{eq-eqb, ne-eqb, le-leb, lt-leb, lt-ltb, le-ltb, ltb-false}
+use lib.Dec.{ltb}
 use lib.ListN.{length}
 use Rattle.lines.specs.Lines.{largest, InLimits, linesOf, wideGaps, estimate}
 use Rattle.reading.specs.declared.Reading.the-variants as Of

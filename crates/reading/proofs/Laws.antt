@@ -7,10 +7,9 @@ use mathlib.Core.List.{List}
 use native.Mathlib.Omega.{arith}
 use borrow.Author.Tests.{eqb-false, leb-false, ltb-true, ltb-false}
 use lib.Dec.{eqb, leb, ltb}
-use lib.ListN.{length, getD, take, drop, length-drop, List·getD-eq-default}
-use lib.Seq.{take-append-le, drop-append-le}
+use lib.ListN.{length, getD, take, drop, List·getD-eq-default}
 use Rattle.lists.specs.Front.{AtFront}
-use Rattle.lists.proofs.Front.{front-fits}
+use Rattle.lists.proofs.Front.{front-fits, front-inner}
 use Rattle.lines.specs.Lines.{InLimits, linesOf, wideGaps, estimate, Remains}
 use Rattle.lines.proofs.Laws.{kept}
 use Rattle.lines.proofs.Rising.{Rising, rising-at, rising-length}
@@ -64,14 +63,6 @@ pub readable-low : {e : ℕ} {lines : List ℕ} {room : ℕ} → Readable e line
 readable-low r = omega (arith, readable-wins r .in-range .below)
 
 -- ---- the lines that remain, as a part of the array
-
--- a part of what stands at the front
-front-inner : {list lent out : List ℕ} (from end : ℕ) → AtFront list lent out → from ≤ end → end ≤ length list
-    → take (end - from) (drop from out) ≡ take (end - from) (drop from list)
-front-inner {list} {lent} from end h r i =
-    let rest = drop (length list) lent in
-    rw (h .is, drop-append-le from list rest (omega arith))
-    (take-append-le (end - from) (drop from list) rest (omega (arith, length-drop from list)))
 
 pub standing : (s : List ℕ) {lent array : List ℕ} {from end e : ℕ} → InLimits s → AtFront (linesOf s) lent array
     → Remains e (linesOf s) from end → e ≡ estimate (linesOf s) → 0 < length (wideGaps (linesOf s)) → e < 206

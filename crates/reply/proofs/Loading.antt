@@ -1,5 +1,5 @@
--- What loading leaves of a screen of the program, in planes of its size: fit planes and a fresh record, or a refusal. Nothing else here speaks of
--- loading's contract. Assumes nothing.
+-- What loading leaves of a screen of the program, in planes of its size: fit planes and a fresh record, or a refusal.
+-- Nothing else here speaks of loading's contract. Assumes nothing.
 use Prim.Native.Nat.{ℕ, _*_, _<_}
 use mathlib.Core.Path.{_≡_, sym, _∙_}
 use mathlib.Core.List.{List}
@@ -11,10 +11,11 @@ use Rattle.lists.proofs.Front.{front-all}
 use Rattle.board.specs.Board.{leastSide, sidesOutside, fresh}
 use Rattle.board.specs.Screen.{packed}
 use Rattle.board.specs.Planes.{FitPlanes}
+use Rattle.board.proofs.Packed.{length-packed}
 use Rattle.board.proofs.Sides.{passed, sides-in}
 use Rattle.load.specs.declared.Loaded.{Loaded}
 use Rattle.load.specs.Load.{mostByte, shown, loadAnswer, LoadGives}
-use Rattle.load.proofs.Laws.{length-packed, shown-fit}
+use Rattle.load.proofs.Laws.{shown-fit}
 
 -- the planes of the screen
 abbrev pub planesOf : ℕ → ℕ → List ℕ → List Float

@@ -1,5 +1,5 @@
--- Locating a screen of the program: its checks pass on planes that are fit, in slices for sides up to 64. Nothing else here speaks of its contract.
--- Assumes nothing.
+-- Locating a screen of the program: its checks pass on planes that are fit, in slices for sides up to 64. Nothing
+-- else here speaks of its contract. Assumes nothing.
 use Prim.Native.Nat.{ℕ, _+_, _*_, _≤_}
 use mathlib.Core.Path.{_≡_, _∙_}
 use mathlib.Core.Bool.{false}
@@ -19,7 +19,8 @@ area a b = mul-le-mul a b
 
 pub locates : {b : Board} {before after : Lent} {r : Located} → LocateGives b before r after
     → FitPlanes leastSide (b .height) (b .width) (before .planes) → b .height ≤ 64 → b .width ≤ 64
-    → length (before .edges) ≡ 4096 → length (before .scores) ≡ 128 → length (before .scratch-f32) ≡ 4096 → length (before .scratch-u8) ≡ 4096
+    → length (before .edges) ≡ 4096 → length (before .scores) ≡ 128 → length (before .scratch-f32) ≡ 4096
+    → length (before .scratch-u8) ≡ 4096
     → length (before .scratch-u32) ≡ 512 → r ≡ foundIn b (before .planes)
 unfolding slicesShort
 locates {b} {before} gives fit low wide e s f y q =

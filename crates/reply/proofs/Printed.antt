@@ -29,8 +29,8 @@ size {h} {w} a b =
     length-take-le (3 * (h * w)) (replicate 12288 (ofBits binary32 0)) (omega (arith, area a b, length-replicate 12288 (ofBits binary32 0)))
 
 -- a choice by an answer that is 0
-first : {A : Type 0} (answer : ℕ) (x y : A) → answer ≡ 0 → cond (eqb answer 0) x y ≡ x
-first answer x y e = rw (eq-eqb answer 0 e)
+accepting : {A : Type 0} (answer : ℕ) (x y : A) → answer ≡ 0 → cond (eqb answer 0) x y ≡ x
+accepting answer x y e = rw (eq-eqb answer 0 e)
 
 module _ {h w : ℕ} {pixels : List ℕ} {r : Loaded} {before after : List Float} (loads : LoadGives mostByte h w pixels before r after)
     (sized : length before ≡ 3 * (h * w)) where
@@ -60,7 +60,7 @@ module _ {h w : ℕ} {pixels : List ℕ} {r : Loaded} {before after : List Float
 
     values-are : valuesOf h w pixels ≡ located (foundIn (fresh h w) (planesOf h w pixels))
     unfolding valuesOf
-    values-are = first (loadAnswer h w (length pixels) (3 * (h * w))) _ _ (sym (answer-is loads sized) ∙ accepted)
+    values-are = accepting (loadAnswer h w (length pixels) (3 * (h * w))) _ _ (sym (answer-is loads sized) ∙ accepted)
 
     pub prints : {l : Located} → l ≡ foundIn (r .board) (take (3 * (h * w)) (after ++ rest)) → located l ≡ valuesOf h w pixels
     prints {l} e =

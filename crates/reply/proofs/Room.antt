@@ -12,7 +12,8 @@ use lib.Dec.{eqb, ltb}
 use lib.Ieee.{Float}
 use lib.ListN.{length, take, drop, length-take}
 use lib.Seq.{getD-take}
-use Rattle.lists.proofs.Fill.{tab-same}
+use Rattle.lists.proofs.Tab.{tab-same}
+use Rattle.lists.proofs.Part.{drop-take}
 use Rattle.board.specs.Board.{fresh}
 use Rattle.board.specs.Screen.{packed}
 use Rattle.load.specs.Load.{mostByte, level, shown, loadAnswer}
@@ -20,7 +21,7 @@ use Rattle.locate.specs.Locate.{foundIn}
 use Rattle.header.specs.declared.Input.{Input}
 use Rattle.header.specs.declared.Input.the-variants.{Sides, Refused}
 use Rattle.header.specs.Header.{headerOf}
-use Rattle.header.proofs.Cut.{drop-take, header-front}
+use Rattle.header.proofs.Cut.{header-front}
 use Rattle.header.proofs.Sides.{Shown, header-shown}
 use Rattle.reply.specs.Values.{located, alone}
 use Rattle.reply.specs.Answer.{valuesOf, valuesFor, answerTo, room}

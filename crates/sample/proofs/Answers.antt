@@ -59,7 +59,7 @@ numbers-in x y r₁ c₁ r₀ c₀ size e =
     }
 
 -- what the answer 0 tells
-pub record Fit (b : Board) (x y size room : ℕ) : Type 0 where
+pub record CellIn (b : Board) (x y size room : ℕ) : Type 0 where
   pub numbers : NumbersIn x y (b .«r_1») (b .«c_1») (b .r0) (b .c0) size
   pub output : 3 * (size * size) ≤ room
   pub rows : (i : ℕ) → i < size → rowAt b x size i < b .height
@@ -69,9 +69,9 @@ all-in : (p : Bool) → _≡_ {A = ℕ} (cond p 0 12) 0 → p ≡ true
 all-in true e = refl
 all-in false e = absurd (omega arith)
 
-pub fit : (b : Board) (x y size room : ℕ) → cellAnswer b x y size room ≡ 0 → Fit b x y size room
+pub cell-in : (b : Board) (x y size room : ℕ) → cellAnswer b x y size room ≡ 0 → CellIn b x y size room
 unfolding cellAnswer
-fit b x y size room e =
+cell-in b x y size room e =
     let p = passed (pitchOutside (b .pixelr) || pitchOutside (b .pixelc)) 9 _ e in
     let n = passed (numbersAbove x y (b .«r_1») (b .«c_1») (b .r0) (b .c0) size) 10 _ (p .1) in
     let o = passed (ltb room (3 * (size * size))) 2 _ (n .1) in

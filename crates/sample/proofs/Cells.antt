@@ -1,33 +1,27 @@
 -- The values that the code copies are those of the cell: each has its place in the planes, and follows the cell's rule. Assumes nothing.
-use Prim.Native.Nat.{ℕ, zero, suc, _+_, _*_, _/_, _%_, _≤_, _<_}
+use Prim.Native.Nat.{ℕ, _+_, _*_, _/_, _%_, _≤_, _<_}
 use mathlib.Core.Path.{_≡_, ap}
 use mathlib.Core.List.{List}
-use native.Mathlib.Nat.{div-lt-iff-lt-mul, mod-lt}
 use native.Mathlib.Omega.{arith}
 use lib.Arith.{digits-lt}
 use lib.Ieee.{Float, nan}
 use lib.ListN.{length, getD}
 use Rattle.lists.specs.Tab.{tab, grid}
-use Rattle.lists.proofs.Fill.{tab-same}
-use Rattle.lists.proofs.Grid.{row-fits}
+use Rattle.lists.proofs.Tab.{tab-same}
+use Rattle.lists.proofs.Grid.{row-column, row-fits}
 use Rattle.board.specs.declared.Board.{Board}
 use Rattle.board.specs.Screen.{view}
 use Rattle.sample.specs.Sample.{rowAt, columnAt}
 use Rattle.sample.specs.Copy.{planeValue}
-use Rattle.sample.proofs.Answers.{Fit}
+use Rattle.sample.proofs.Answers.{CellIn}
 
 -- plane k of the cell, by the place in it
 abbrev pub cellPlane : Board → List Float → ℕ → ℕ → ℕ → ℕ → ℕ → Float
 cellPlane b planes x y size k n = view (b .height) (b .width) planes .px k (rowAt b x size (n / size)) (columnAt b y size (n % size))
 
--- the row and the column of a place
-row-column : (n size : ℕ) → n < size * size → (n / size < size) × (n % size < size)
-row-column n zero h = absurd (omega arith)
-row-column n (suc k) h = (div-lt-iff-lt-mul {k = suc k} {x = n} {y = suc k} (omega arith) .1 h, mod-lt n (omega arith))
-
 -- the places of a cell that is answered with 0
 pub record PlacesAre (b : Board) (x y size room : ℕ) (rows columns : List ℕ) : Type 0 where
-  pub fit : Fit b x y size room
+  pub fit : CellIn b x y size room
   pub rows-are : (i : ℕ) → i < size → getD rows i 0 ≡ rowAt b x size i
   pub columns-are : (j : ℕ) → j < size → getD columns j 0 ≡ columnAt b y size j
 
@@ -43,5 +37,5 @@ module _ {b : Board} {x y size room : ℕ} {rows columns : List ℕ} (planes : L
   plane-is k =
       tab-same (size * size) _ (cellPlane b planes x y size k)
       (λ n n-in.
-      let at = row-column n size n-in in
+      let at = row-column size size n n-in in
       rw (p .rows-are (n / size) (at .0), p .columns-are (n % size) (at .1)) (ap (λ (m : ℕ). getD planes m nan) (omega arith)))

@@ -4,13 +4,12 @@ use mathlib.Core.Path.{_≡_, sym, ap, _∙_}
 use mathlib.Core.List.{List}
 use native.Mathlib.Nat.{mul-le-mul-left, mul-le-mul-right, add-mul}
 use native.Mathlib.Omega.{arith}
-use borrow.Rule.Slice.PartMut.{midOf, putMid, same-len-mid}
+use borrow.Rule.Slice.PartMut.{midOf, putMid}
 use lib.ListN.{length}
-use lib.Seq.{drop-drop}
-use Rattle.lists.specs.Front.{AtFront, Placed}
+use Rattle.lists.specs.Front.{AtFront}
 use Rattle.lists.specs.Tab.{tab}
-use Rattle.lists.proofs.Fill.{length-tabFrom, tab-same, tab-add}
-use Rattle.lists.proofs.Front.{placed-front}
+use Rattle.lists.proofs.Tab.{length-tabFrom, tab-same, tab-add}
+use Rattle.lists.proofs.Front.{placed-front, placed-part}
 
 -- a band of m strips from strip i on lies within the picture, and its scratch within the scratch, if those of all n strips do
 pub band-in : (r i m n stride to len : ℕ) → i + m ≤ n → (r + n + 3) * stride + to < len → (r + i + m + 3) * stride + to < len
@@ -32,10 +31,6 @@ pub strip-in : (o across c c₂ n : ℕ) → c + 4 ≤ c₂ → o + c₂ * acros
 strip-in o across c c₂ n l h = omega (arith, mul-le-mul-right across l)
 
 module _ {A : Type 0} where
-  -- a part that comes back with as many entries stands where it was lent
-  placed-part : (a k : ℕ) (s last : List A) → length (midOf a k s) ≡ k → length last ≡ k → Placed last a s (putMid a k s last)
-  placed-part a k s last n l = record { len = same-len-mid a k s last (l ∙ sym n); is = rw (l, drop-drop) }
-
   -- the next m entries, by a rule g that counts from their start
   pub front-band : (f g : ℕ → A) (a m k : ℕ) {lent s last : List A} → AtFront (tab a f) lent s → length (midOf a k s) ≡ m → k ≡ m →
       last ≡ tab (length (midOf a k s)) g → ((j : ℕ) → g j ≡ f (a + j)) → AtFront (tab (a + m) f) lent (putMid a k s last)

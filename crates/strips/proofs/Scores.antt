@@ -11,7 +11,7 @@ use borrow.Rule.Slice.PartMut.{putMid, midOf, mid-len}
 use lib.Seq.{drop-drop}
 use Rattle.lists.specs.Front.{AtFront}
 use Rattle.lists.specs.Tab.{tabFrom, tab}
-use Rattle.lists.proofs.Fill.{length-tabFrom}
+use Rattle.lists.proofs.Tab.{length-tabFrom}
 use Rattle.lists.proofs.Front.{front-by}
 use Rattle.lanes.specs.Score.{Place, at, score}
 use Rattle.strips.specs.Strip.{places, placeCount, scores}

@@ -3,13 +3,14 @@ use Prim.Native.Nat.{ℕ, _+_, _-_, _*_, _/_, _%_, _≤_, _<_}
 use mathlib.Core.Path.{_≡_, refl, sym, ap, _∙_}
 use mathlib.Core.Bool.{Bool, true, false}
 use mathlib.Core.List.{List}
-use native.Mathlib.Nat.{not-suc-le-zero, zero-add, add-mul, div-lt-iff-lt-mul, div-add-mod', mod-lt}
+use native.Mathlib.Nat.{not-suc-le-zero, zero-add, add-mul, div-add-mod'}
 use native.Mathlib.Omega.{arith}
 use borrow.Author.Tests.{eqb-true, eqb-false, ltb-true, ltb-false}
 use lib.Arith.{digits-lt, digits-div, digits-mod}
 use lib.Dec.{eqb, ltb}
 use lib.ListN.{length, getD, set, take, length-set, List·getD-eq-default}
 use lib.Seq.{getD-set-same, getD-set-other, getD-take, length-take-le}
+use Rattle.lists.proofs.Grid.{row-column}
 use Rattle.lists.specs.Picture.{points}
 use Rattle.lanes.specs.Score.{at, onStrip, score}
 use Rattle.lanes.specs.States.{Marks}
@@ -90,16 +91,16 @@ module _ {e : List ℕ} {first stride : ℕ} where
           rw o (v .new j (d - i) h (omega arith) ∙ ap (λ (x : ℕ). getD e x 0) p)
 
   -- turned bytes of 0 and 1 are bytes of 0 and 1
-  pub turned-marks : {n b : ℕ} {s t : List ℕ} → Turned e first stride n b 0 b s t → 0 < b → n * b ≤ length t →
+  pub turned-marks : {n b : ℕ} {s t : List ℕ} → Turned e first stride n b 0 b s t → n * b ≤ length t →
       Marks e → Marks (take (n * b) t)
-  turned-marks {n} {b} {s} {t} u p h m k = go (ltb k (n * b)) refl
+  turned-marks {n} {b} {s} {t} u h m k = go (ltb k (n * b)) refl
     where
       go : (z : Bool) → ltb k (n * b) ≡ z → getD (take (n * b) t) k 0 ≤ 1
       go true z =
           let l = ltb-true k (n * b) z in
-          let q : k / b < n = div-lt-iff-lt-mul p .1 l in
+          let place = row-column n b k l in
           let o : k ≡ k / b * b + (0 + k % b) = rw (zero-add (k % b)) (sym (div-add-mod' k b)) in
-          rw (getD-take (n * b) t k 0 l, o, u .new (k / b) (k % b) q (mod-lt k p)) (m _)
+          rw (getD-take (n * b) t k 0 l, o, u .new (k / b) (k % b) (place .0) (place .1)) (m _)
       go false z =
           let l = ltb-false k (n * b) z in
           rw (List·getD-eq-default (take (n * b) t) 0 {n = k} (rw (length-take-le (n * b) t h) l)) (omega arith)

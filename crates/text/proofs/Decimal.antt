@@ -10,7 +10,7 @@ use lib.Dec.{ltb}
 use lib.ListN.{length, getD, drop, length-append}
 use lib.Seq.{drop-cons}
 use borrow.Author.Tests.{lt-ltb, le-ltb, ltb-false}
-use Rattle.text.specs.Text.{digitsOf, decimal, following, spaced, numbersLine}
+use Rattle.text.specs.Text.{digitsOf, decimal, following, numbersLine}
 
 -- a tenth has a digit less
 tenth : (k n : ℕ) → n < 10 ^ suc k → n / 10 < 10 ^ k

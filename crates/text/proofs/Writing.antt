@@ -1,12 +1,11 @@
 -- Texts one after another, and a text of which a part is written. Assumes nothing.
-use Prim.Native.Nat.{ℕ, suc, _+_, _<_, _≤_}
+use Prim.Native.Nat.{ℕ, _+_, _<_, _≤_}
 use mathlib.Core.Path.{_≡_, refl, sym, ap, _∙_}
 use mathlib.Core.List.{List, [], _∷_, _++_, append-assoc, append-nil}
 use native.Mathlib.Numerals.{add-one}
 use native.Mathlib.Omega.{arith}
 use lib.ListN.{length, set, length-set, length-append}
 use lib.Seq.{set-split}
-use Rattle.lists.specs.Front.{Placed}
 use Rattle.lists.proofs.Front.{placed-none, placed-join}
 use Rattle.text.specs.Text.{Puts}
 

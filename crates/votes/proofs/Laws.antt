@@ -3,7 +3,7 @@
 -- Assumes nothing.
 use Prim.Native.Nat.{ℕ, suc, _-_, _*_, _/_, _%_, _≤_, _<_}
 use mathlib.Core.Path.{_≡_, refl, sym}
-use mathlib.Core.Logic.{_⊎_, ⊎-elim}
+use mathlib.Core.Logic.{⊎-elim}
 use mathlib.Core.List.{List, [], _∷_}
 use native.Mathlib.Nat.{mod-le, mod-add-div', le-div-iff-mul-le, div-mul-le-self, mul-le-mul-left, le-trans}
 use native.Mathlib.Nat.{mul-div-cancel, mul-assoc, mul-comm}

@@ -15,9 +15,9 @@ abbrev pub hit : ℕ → ℕ → ℕ → ℕ
 hit l s offset = cond (eqb (offset + s) l) 1 0
 
 -- each of the first `width` entries of a row has v more
-pub record Added (width : ℕ) (v : ℕ → ℕ) (row out : List ℕ) : Type 0 where
-  pub len : length out ≡ length row
-  pub at : (o : ℕ) → o < width → getD out o 0 ≡ getD row o 0 + v o
+pub record Added (width : ℕ) (v : ℕ → ℕ) (before after : List ℕ) : Type 0 where
+  pub len : length after ≡ length before
+  pub at : (o : ℕ) → o < width → getD after o 0 ≡ getD before o 0 + v o
 
 -- x is one of `count` numbers from `from` on
 pub record OneOf (from count x : ℕ) : Type 0 where

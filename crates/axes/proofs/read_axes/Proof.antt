@@ -18,28 +18,35 @@ use Rattle.axes.proofs.read_axes.Statement.{statement}
 use Rattle.axes.proofs.read_axes.Tie as tie
 
 -- after both counts: what was handed in, and the slice with both lists at its front
+abbrev at-scores : tie.After-place-count2 → tie.After-score-all
+at-scores c = c .before .before .before .before .before .before
+
+abbrev at-start : tie.After-place-count2 → tie.Start
+at-start c = at-scores c .before .before .before .before .before .before .before
+
 abbrev bounds : tie.After-place-count2 → Bounds
-bounds c = c .before .before .before .before .before .before .before .before .before .before .before .before .before .args .b
+bounds c = at-start c .args .b
 
 abbrev E : tie.After-place-count2 → ℕ → ℕ → Bool
-E c = points (c .before .before .before .before .before .before .before .before .before .before .before .before .before .args .stride) 1 (now (c .before .before .before .before .before .before .before .before .before .before .before .before .before .args .edges))
+E c = points (at-start c .args .stride) 1 (now (at-start c .args .edges))
 
 abbrev slice : tie.After-place-count2 → List ℕ
-slice c = c .before .before .before .before .before .before .score-all .last .1 .1 .1 .1 .0
+slice c = at-scores c .score-all .last .1 .1 .1 .1 .0
 
-lists : (c : tie.After-place-count2) → AtFront (columnScores (E c) (bounds c) ++ rowScores (E c) (bounds c)) (now (c .before .before .before .before .before .before .before .before .before .before .before .before .before .args .scores)) (slice c)
-lists c = c .before .before .before .before .before .before .score-all .ensures
+lists : (c : tie.After-place-count2)
+    → AtFront (columnScores (E c) (bounds c) ++ rowScores (E c) (bounds c)) (now (at-start c .args .scores)) (slice c)
+lists c = at-scores c .score-all .ensures
 
-scorable : (c : tie.After-place-count2) → Scorable (now (c .before .before .before .before .before .before .before .before .before .before .before .before .before .args .edges)) (c .before .before .before .before .before .before .before .before .before .before .before .before .before .args .stride) (bounds c)
-scorable c = c .before .before .before .before .before .before .before .before .before .before .before .before .before .pre .0
+scorable : (c : tie.After-place-count2) → Scorable (now (at-start c .args .edges)) (at-start c .args .stride) (bounds c)
+scorable c = at-start c .pre .0
 
 -- the two parts, by the numbers that were counted
 columns-are : (c : tie.After-place-count2) → take (c .before .place-count .result) (slice c) ≡ columnScores (E c) (bounds c)
 columns-are c = across-part (E c) (bounds c) (lists c) (c .before .place-count .ensures) (c .place-count2 .ensures)
 
 rows-are : (c : tie.After-place-count2)
-    → take (c .before .place-count .result + c .place-count2 .result - c .before .place-count .result) (drop (c .before .place-count .result) (slice c))
-    ≡ rowScores (E c) (bounds c)
+    → let n = c .before .place-count .result in
+    take (n + c .place-count2 .result - n) (drop n (slice c)) ≡ rowScores (E c) (bounds c)
 rows-are c = down-part (E c) (bounds c) (lists c) (c .before .place-count .ensures) (c .place-count2 .ensures)
 
 score-all-requires : tie.Need-score-all-requires
@@ -67,7 +74,8 @@ quarters-of-requires c κs =
     let at = c .before .before in
     let counted = at .before .place-count .ensures in
     let long = across-in (E at) (bounds at) (lists at) counted (at .place-count2 .ensures) in
-    (rw (columns-are at) (across-fit (E at) (bounds at) (lists at) (scorable at)), omega (arith, long, counted, at .before .before .before .before .before .before .before .before .before .before .before .before .before .pre .1 .words-in))
+    let room = at-start at .pre .1 .words-in in
+    (rw (columns-are at) (across-fit (E at) (bounds at) (lists at) (scorable at)), omega (arith, long, counted, room))
 
 mul-quarters-of : tie.Need-mul-quarters-of
 mul-quarters-of c = search needs
@@ -86,7 +94,8 @@ quarters-of-requires-2 c κs =
     let at = c .before .before .before .before .before .before .before .before in
     let counted = at .place-count2 .ensures in
     let long = down-in (E at) (bounds at) (lists at) (at .before .place-count .ensures) counted in
-    (rw (rows-are at) (down-fit (E at) (bounds at) (lists at) (scorable at)), omega (arith, long, counted, at .before .before .before .before .before .before .before .before .before .before .before .before .before .pre .1 .words-in))
+    let room = at-start at .pre .1 .words-in in
+    (rw (rows-are at) (down-fit (E at) (bounds at) (lists at) (scorable at)), omega (arith, long, counted, room))
 
 same-length : tie.Need-same-length
 same-length c = search needs
@@ -99,9 +108,10 @@ same-length-3 c = search needs
 
 returns : tie.Need-returns
 returns c =
-    let at = c .before .before .before .before .before .before .before .before .before .before .before in
+    let columns = c .before .before .before .before .before .before .before .before in
+    let at = columns .before .before .before in
     record {
-      columns-are = c .before .before .before .before .before .before .before .before .quarters-of .ensures ∙ ap quartersOf (columns-are at);
+      columns-are = columns .quarters-of .ensures ∙ ap quartersOf (columns-are at);
       rows-are = c .before .before .quarters-of2 .ensures ∙ ap quartersOf (rows-are at);
       scores-are = lists at;
     }

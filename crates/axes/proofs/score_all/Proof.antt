@@ -37,7 +37,8 @@ returns : tie.Need-returns
 returns c =
     let columns = c .before .before .before .before .before .before .before .before .before .before in
     let count = c .before .before .before .before .before .before .before .place-count .ensures in
-    front-behind _ (length-scores _ _ _ _ _ ∙ sym count) (columns .column-scores .ensures) (c .before .before .before .before .row-scores .ensures)
+    let rows = c .before .before .before .before in
+    front-behind _ (length-scores _ _ _ _ _ ∙ sym count) (columns .column-scores .ensures) (rows .row-scores .ensures)
 
 pub score-all-spec : {M : Type 1} → statement M
 score-all-spec =

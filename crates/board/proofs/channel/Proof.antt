@@ -13,7 +13,7 @@ has-channel-requires : tie.Need-has-channel-requires
 has-channel-requires c κs = search needs
 
 -- the plane stands among the values
-here : (c : tie.Then1) → Stands (c .before .before .before .args .height) (c .before .before .before .args .width) (length (now (c .before .before .before .args .planes))) (c .before .before .before .args .k)
+here : (c : tie.Then1) → let a = c .before .before .before .args in Stands (a .height) (a .width) (length (now (a .planes))) (a .k)
 here c = stands (sym (c .before .has-channel .ensures) ∙ c .if1 .taken)
 
 mul-n : tie.Need-mul-n

@@ -18,10 +18,10 @@ unfolding planesAnswer
 returns c = rw (sym (c .before .sides-outside .ensures) ∙ c .if1 .taken)
 
 -- the sides are within the limits
-in-limits : (c : tie.Else1) → sidesOutside (c .before .before .before .args .least) (c .before .before .before .args .height) (c .before .before .before .args .width) ≡ false
+in-limits : (c : tie.Else1) → let a = c .before .before .before .args in sidesOutside (a .least) (a .height) (a .width) ≡ false
 in-limits c = sym (c .before .sides-outside .ensures) ∙ c .if1 .left
 
-here : (c : tie.Else1) → SidesIn (c .before .before .before .args .least) (c .before .before .before .args .height) (c .before .before .before .args .width)
+here : (c : tie.Else1) → let a = c .before .before .before .args in SidesIn (a .least) (a .height) (a .width)
 here c = sides-in _ _ _ (in-limits c)
 
 mul-if2 : tie.Need-mul-if2
@@ -50,12 +50,16 @@ all-units-requires c κs = (omega arith, omega (arith, here (c .before .before) 
 returns-4 : tie.Need-returns-4
 unfolding planesAnswer
 returns-4 c =
-    rw (in-limits (c .before .before .before .before), le-ltb _ _ (c .before .before .before .if2 .left), c .before .before .if3 .left, sym (c .before .all-units .ensures) ∙ c .if4 .taken)
+    let at = c .before .before in
+    let units = sym (c .before .all-units .ensures) ∙ c .if4 .taken in
+    rw (in-limits (at .before .before), le-ltb _ _ (at .before .if2 .left), at .if3 .left, units)
 
 returns-5 : tie.Need-returns-5
 unfolding planesAnswer
 returns-5 c =
-    rw (in-limits (c .before .before .before .before), le-ltb _ _ (c .before .before .before .if2 .left), c .before .before .if3 .left, sym (c .before .all-units .ensures) ∙ c .if4 .left)
+    let at = c .before .before in
+    let units = sym (c .before .all-units .ensures) ∙ c .if4 .left in
+    rw (in-limits (at .before .before), le-ltb _ _ (at .before .if2 .left), at .if3 .left, units)
 
 pub planes-answer-spec : {M : Type 1} → statement M
 planes-answer-spec =

@@ -1,5 +1,5 @@
--- `bounds::bound_of` meets its contract. The invariant: the scan from the start stops where the scan from here does, with moves enough left.
--- The distance falls.
+-- `bounds::bound_of` meets its contract. The invariant: the scan from the start stops where the scan from here does,
+-- with moves enough left. The distance falls.
 use Prim.Native.Nat.{_<_}
 use mathlib.Core.Path.{sym, _∙_}
 use native.Mathlib.Omega.{arith}

@@ -33,7 +33,8 @@ returns : tie.Need-returns Inv-loop μ-loop
 returns c =
     let l = c .before .before .before .before in
     let a = l .before .before .before .before .args in
-    let more = seen-more (λ q. seen (a .v) (now (a .e)) q (a .m)) (l .loop .more) (l .loop .p) _ (c .before .before .before .loop-test .taken) in
+    let more =
+    seen-more (λ q. seen (a .v) (now (a .e)) q (a .m)) (l .loop .more) (l .loop .p) _ (c .before .before .before .loop-test .taken) in
     rw (l .loop .inv .1, more, sym (c .before .before .is-set .ensures) ∙ c .before .if1 .taken, eq-eqb (l .loop .more) 0 (c .if2 .taken))
 
 sub-more : tie.Need-sub-more Inv-loop μ-loop
@@ -49,7 +50,9 @@ loop-again : tie.Need-loop-again Inv-loop μ-loop
 loop-again c =
     let l = c .before .before .before in
     let a = l .before .before .before .before .args in
-    let more = l .loop .inv .1 ∙ seen-more (λ q. seen (a .v) (now (a .e)) q (a .m)) (l .loop .more) (l .loop .p) _ (c .before .before .loop-test .taken) in
+    let more =
+    l .loop .inv .1 ∙ seen-more (λ q. seen (a .v) (now (a .e)) q (a .m)) (l .loop .more) (l .loop .p) _
+    (c .before .before .loop-test .taken) in
     let e = c .before .is-set .ensures in
     ⊎-elim
     (λ w. (omega arith, rw (w .2) (rw (sym e ∙ w .0 .taken, ne-eqb (l .loop .more) 0 (w .1 .left)) at more)))

@@ -18,7 +18,9 @@ rows-requires-2 : tie.Need-rows-requires-2
 rows-requires-2 c κs = search needs
 
 bound-of-requires-2 : tie.Need-bound-of-requires-2
-bound-of-requires-2 c κs = let p = c .before .before .before .before .pre in rows-lie Far (le-refl _) (p .4) (c .rows2 .ensures) (p .3) (p .2) (p .0)
+bound-of-requires-2 c κs =
+    let p = c .before .before .before .before .pre in
+    rows-lie Far (le-refl _) (p .4) (c .rows2 .ensures) (p .3) (p .2) (p .0)
 
 columns-requires : tie.Need-columns-requires
 columns-requires c κs = search needs

@@ -26,7 +26,9 @@ loop-holds : tie.Need-loop-holds Inv-loop μ-loop
 loop-holds c = (omega arith, omega arith, omega arith)
 
 pair-at-requires : tie.Need-pair-at-requires Inv-loop μ-loop
-pair-at-requires c κs = let s = c .before .before .before .before .before in (s .pre .0, omega arith, omega (arith, s .pre .0 .small), s .pre .2, s .pre .3)
+pair-at-requires c κs =
+    let s = c .before .before .before .before .before in
+    (s .pre .0, omega arith, omega (arith, s .pre .0 .small), s .pre .2, s .pre .3)
 
 add-sum : tie.Need-add-sum Inv-loop μ-loop
 add-sum c =

@@ -15,11 +15,13 @@ place-of-requires : tie.Need-place-of-requires
 place-of-requires c κs = search needs
 
 -- the point is a byte of the slice
-here : (c : tie.After-place-of) → let a = c .before .before .args in a .p * a .v .down + c .place-of .result * a .v .right < length (now (a .e))
+here : (c : tie.After-place-of) → let a = c .before .before .args in
+    a .p * a .v .down + c .place-of .result * a .v .right < length (now (a .e))
 here c =
     let s = c .before .before in
     let v = s .args .v in
-    rw (c .place-of .ensures) (s .pre .0 .inside (s .args .p) (place (v .way) (v .along) (s .args .m)) (s .pre .1) (place-below (v .way) (s .pre .2)))
+    rw (c .place-of .ensures)
+    (s .pre .0 .inside (s .args .p) (place (v .way) (v .along) (s .args .m)) (s .pre .1) (place-below (v .way) (s .pre .2)))
 
 mul-at : tie.Need-mul-at
 mul-at c = omega (arith, here (c .before))

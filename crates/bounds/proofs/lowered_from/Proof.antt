@@ -1,4 +1,5 @@
--- `bounds::lowered_from` meets its contract. The invariant: the first distance from the start on is the first from here on. The distance falls.
+-- `bounds::lowered_from` meets its contract. The invariant: the first distance from the start on is the first from
+-- here on. The distance falls.
 use Prim.Native.Nat.{_≤_}
 use mathlib.Core.Path.{_≡_, refl, sym, _∙_}
 use native.Mathlib.Omega.{arith}
@@ -11,7 +12,8 @@ use Rattle.bounds.proofs.lowered_from.Statement.{statement}
 use Rattle.bounds.proofs.lowered_from.Tie as tie
 
 abbrev Inv-loop : tie.InvT-loop
-Inv-loop e v beside from m₀ m = (m ≤ from) × (lowered (sumAt beside (seen v e) (v .across)) from ≡ lowered (sumAt beside (seen v e) (v .across)) m)
+Inv-loop e v beside from m₀ m =
+    (m ≤ from) × (lowered (sumAt beside (seen v e) (v .across)) from ≡ lowered (sumAt beside (seen v e) (v .across)) m)
 
 abbrev μ-loop : tie.MeasureT-loop
 μ-loop e v beside from m₀ m = m

@@ -21,7 +21,9 @@ skip-from-requires : tie.Need-skip-from-requires
 skip-from-requires c κs = search needs
 
 returns-3 : tie.Need-returns-3
-returns-3 c = rw (ne-eqb _ 0 (c .before .before .before .if1 .left), sym (c .before .before .is-set .ensures) ∙ c .before .if2 .left) (c .skip-from .ensures)
+returns-3 c =
+    rw (ne-eqb _ 0 (c .before .before .before .if1 .left), sym (c .before .before .is-set .ensures) ∙ c .before .if2 .left)
+    (c .skip-from .ensures)
 
 pub move-from-spec : {M : Type 1} → statement M
 move-from-spec =

@@ -50,10 +50,16 @@ returns c =
     let r-1 = r-2 .before .before in
     let a = r-1 .before .before .before .args in
     let E = now (a .edges) in
-    let is-r-1 = of-rows (rule Ahead (a .b .«r_1»)) Near (a .row) (a .column) (a .stride) E (r-1 .widened-from .ensures) (r-1 .before .rows .ensures) in
-    let is-r-2 = of-rows (rule Ahead (a .b .«r_2»)) Far (a .row) (a .column) (a .stride) E (r-2 .widened-from2 .ensures) (r-2 .before .rows2 .ensures) in
-    let is-c-1 = of-columns (rule Before (a .b .«c_1»)) Near (a .row) (a .column) (a .stride) E (c-1 .widened-from3 .ensures) (c-1 .before .columns .ensures) in
-    let is-c-2 = of-columns (rule Ahead (a .b .«c_2»)) Far (a .row) (a .column) (a .stride) E (c .widened-from4 .ensures) (c .before .columns2 .ensures) in
+    let is-r-1 =
+    of-rows (rule Ahead (a .b .«r_1»)) Near (a .row) (a .column) (a .stride) E (r-1 .widened-from .ensures) (r-1 .before .rows .ensures) in
+    let is-r-2 =
+    of-rows (rule Ahead (a .b .«r_2»)) Far (a .row) (a .column) (a .stride) E (r-2 .widened-from2 .ensures) (r-2 .before .rows2 .ensures) in
+    let is-c-1 =
+    of-columns (rule Before (a .b .«c_1»)) Near (a .row) (a .column) (a .stride) E (c-1 .widened-from3 .ensures)
+    (c-1 .before .columns .ensures) in
+    let is-c-2 =
+    of-columns (rule Ahead (a .b .«c_2»)) Far (a .row) (a .column) (a .stride) E (c .widened-from4 .ensures)
+    (c .before .columns2 .ensures) in
     rw (is-r-1, is-r-2, is-c-1, is-c-2)
 
 pub widen-spec : {M : Type 1} → statement M

@@ -24,7 +24,8 @@ lowered-from-requires c κs =
 place-of-requires-2 : tie.Need-place-of-requires-2
 place-of-requires-2 c κs =
     let s = c .before .before .before in
-    let le = lowered-le (sumAt (s .args .beside) (seen (s .args .v) (now (s .args .e))) (s .args .v .across)) (c .before .place-of .result) in
+    let le =
+    lowered-le (sumAt (s .args .beside) (seen (s .args .v) (now (s .args .e))) (s .args .v .across)) (c .before .place-of .result) in
     omega (arith, c .lowered-from .ensures, le, below (c .before))
 
 returns : tie.Need-returns

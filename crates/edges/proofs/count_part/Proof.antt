@@ -4,16 +4,15 @@ use mathlib.Core.Path.{_≡_}
 use native.Mathlib.Nat.{zero-mul, mul-le-mul}
 use native.Mathlib.Omega.{arith}
 use denote.Ref.{now}
-use Rattle.lists.proofs.Grid.{cell}
 use Rattle.edges.specs.Counts.{taken}
-use Rattle.edges.proofs.Sample.{partAt, Counted, counted-none, counted-row, counted-all}
+use Rattle.edges.proofs.Sample.{partAt, atPlace, Counted, counted-none, counted-row, counted-all}
 use borrow.Author.Needs.{needs}
 use Rattle.edges.proofs.count_part.Statement.{statement}
 use Rattle.edges.proofs.count_part.Tie as tie
 
 abbrev Inv-loop : tie.InvT-loop
 Inv-loop every parts row column g bits rows columns count₀ i₀ count i =
-    (i ≤ rows) × Counted bits (cell (partAt every parts row column g) columns) (i * columns) count
+    (i ≤ rows) × Counted bits (atPlace (partAt every parts row column g) columns) (i * columns) count
 
 abbrev μ-loop : tie.MeasureT-loop
 μ-loop every parts row column g bits rows columns count₀ i₀ count i = rows - i
@@ -57,7 +56,7 @@ here : (c : tie.After-count-row Inv-loop μ-loop)
     → let at = at-turn c in
     let a = at-start at .args in
     let n = at-sizes at .taken2 .result in
-    Counted (a .bits) (cell (partAt (a .every) (a .parts) (a .row) (a .column) (now (a .g))) n) ((at .loop .i + 1) * n)
+    Counted (a .bits) (atPlace (partAt (a .every) (a .parts) (a .row) (a .column) (now (a .g))) n) ((at .loop .i + 1) * n)
     (at .loop .count + c .count-row .result)
 here c =
     let at = at-turn c in

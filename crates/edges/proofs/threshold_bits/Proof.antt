@@ -7,13 +7,13 @@ use lib.ListN.{length}
 use Rattle.binary32.proofs.Plain.{Plain}
 use Rattle.edges.specs.Counts.{part, sought}
 use Rattle.edges.proofs.Sample.{AllAre, part-plain, part-all}
-use Rattle.edges.proofs.Threshold.{Holds, holds-all, holds-cut, cut-inside}
+use Rattle.edges.proofs.Threshold.{Encloses, encloses-all, encloses-cut, cut-inside}
 use borrow.Author.Needs.{needs}
 use Rattle.edges.proofs.threshold_bits.Statement.{statement}
 use Rattle.edges.proofs.threshold_bits.Tie as tie
 
 abbrev Inv-loop : tie.InvT-loop
-Inv-loop row column g rank seen₀ range₀ seen range = Holds (part 1 1 row column g) rank range
+Inv-loop row column g rank seen₀ range₀ seen range = Encloses (part 1 1 row column g) rank range
 
 abbrev μ-loop : tie.MeasureT-loop
 μ-loop row column g rank seen₀ range₀ seen range = range .hi - range .lo
@@ -46,7 +46,7 @@ plain c =
 loop-holds : tie.Need-loop-holds Inv-loop μ-loop
 loop-holds c =
     let a = at-start c .args in
-    holds-all (part 1 1 (a .row) (a .column) (now (a .g))) (a .rank) _ (plain c) refl refl
+    encloses-all (part 1 1 (a .row) (a .column) (now (a .g))) (a .rank) _ (plain c) refl refl
 
 next-count-requires : tie.Need-next-count-requires Inv-loop μ-loop
 next-count-requires c κs = search needs
@@ -72,7 +72,7 @@ loop-again : tie.Need-loop-again Inv-loop μ-loop
 loop-again c =
     let at = at-turn c in
     let m = at-placed c .next-count .ensures in
-    holds-cut (plain (at .before)) (at .loop .inv) (m .0) (m .1) (at-counted c .count-part .ensures) (c .cut .ensures)
+    encloses-cut (plain (at .before)) (at .loop .inv) (m .0) (m .1) (at-counted c .count-part .ensures) (c .cut .ensures)
 
 returns : tie.Need-returns Inv-loop μ-loop
 returns c =

@@ -15,7 +15,9 @@ same-length-2 : tie.Need-same-length-2
 same-length-2 c = search needs
 
 returns : tie.Need-returns
-returns c = rw (c .before .before .before .before .before .before .before .bounds-of .ensures) at (c .before .before .before .before .row-scores .ensures)
+returns c =
+    let rows = c .before .before .before .before in
+    rw (rows .before .before .before .bounds-of .ensures) at (rows .row-scores .ensures)
 
 pub folgutan-inner-row-scores-spec : {M : Type 1} → statement M
 folgutan-inner-row-scores-spec =

@@ -6,7 +6,7 @@ use denote.Ref.{now}
 use lib.ListN.{length, getD}
 use Rattle.lists.specs.Front.{AtFront}
 use Rattle.lists.specs.Tab.{tab}
-use Rattle.lists.proofs.Fill.{length-tabFrom}
+use Rattle.lists.proofs.Tab.{length-tabFrom}
 use Rattle.lists.proofs.Front.{front-none, front-more, front-all}
 use borrow.Author.Needs.{needs}
 use Rattle.lanes.proofs.middle_lanes.Statement.{statement}

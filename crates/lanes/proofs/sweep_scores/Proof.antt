@@ -2,7 +2,7 @@
 use Prim.Native.Nat.{_+_, _-_}
 use mathlib.Core.Path.{_≡_, _∙_}
 use native.Mathlib.Omega.{arith}
-use Rattle.lists.proofs.Fill.{tab-same}
+use Rattle.lists.proofs.Tab.{tab-same}
 use Rattle.lanes.proofs.Stores.{middle-score}
 use borrow.Author.Needs.{needs}
 use Rattle.lanes.proofs.sweep_scores.Statement.{statement}

@@ -1,4 +1,5 @@
--- `lists::count_at_most` meets its contract. The invariant: what was counted and the count of the rest make the whole count. What is left of the list falls.
+-- `lists::count_at_most` meets its contract. The invariant: what was counted and the count of the rest make the whole
+-- count. What is left of the list falls.
 use Prim.Native.Nat.{_+_, _-_, _≤_}
 use mathlib.Core.Path.{_≡_}
 use mathlib.Core.List.{[], _∷_}
@@ -13,7 +14,8 @@ use Rattle.lists.proofs.count_at_most.Statement.{statement}
 use Rattle.lists.proofs.count_at_most.Tie as tie
 
 abbrev Inv-loop : tie.InvT-loop
-Inv-loop s v n₀ k₀ k-end n k = (k ≤ length s) × (n ≤ k) × (k-end ≡ length s) × (n + count (λ y. leb y v) (drop k s) ≡ count (λ y. leb y v) s)
+Inv-loop s v n₀ k₀ k-end n k =
+    (k ≤ length s) × (n ≤ k) × (k-end ≡ length s) × (n + count (λ y. leb y v) (drop k s) ≡ count (λ y. leb y v) s)
 
 abbrev μ-loop : tie.MeasureT-loop
 μ-loop s v n₀ k₀ k-end n k = length s - k
@@ -31,7 +33,10 @@ one-at-most-requires : tie.Need-one-at-most-requires Inv-loop μ-loop
 one-at-most-requires c κs = search needs
 
 add-n : tie.Need-add-n Inv-loop μ-loop
-add-n c = omega (arith, c .one-at-most .ensures, count-le (λ x. leb x (c .before .before .before .before .before .args .v)) (getD (now (c .before .before .before .before .before .args .s)) (c .before .before .before .loop .k) 0 ∷ []))
+add-n c =
+    let a = c .before .before .before .before .before .args in
+    let k = c .before .before .before .loop .k in
+    omega (arith, c .one-at-most .ensures, count-le (λ x. leb x (a .v)) (getD (now (a .s)) k 0 ∷ []))
 
 add-k : tie.Need-add-k Inv-loop μ-loop
 add-k c = search needs

@@ -1,4 +1,5 @@
--- `lists::count_equal` meets its contract. The invariant: what was counted and the count of the rest make the whole count. What is left of the list falls.
+-- `lists::count_equal` meets its contract. The invariant: what was counted and the count of the rest make the whole
+-- count. What is left of the list falls.
 use Prim.Native.Nat.{_+_, _-_, _≤_}
 use mathlib.Core.Path.{_≡_}
 use mathlib.Core.List.{[], _∷_}
@@ -13,7 +14,8 @@ use Rattle.lists.proofs.count_equal.Statement.{statement}
 use Rattle.lists.proofs.count_equal.Tie as tie
 
 abbrev Inv-loop : tie.InvT-loop
-Inv-loop s v n₀ k₀ k-end n k = (k ≤ length s) × (n ≤ k) × (k-end ≡ length s) × (n + count (λ y. eqb y v) (drop k s) ≡ count (λ y. eqb y v) s)
+Inv-loop s v n₀ k₀ k-end n k =
+    (k ≤ length s) × (n ≤ k) × (k-end ≡ length s) × (n + count (λ y. eqb y v) (drop k s) ≡ count (λ y. eqb y v) s)
 
 abbrev μ-loop : tie.MeasureT-loop
 μ-loop s v n₀ k₀ k-end n k = length s - k

@@ -3,19 +3,18 @@
 use Prim.Native.Nat.{_-_, _*_, _≤_}
 use mathlib.Core.Path.{_≡_, _∙_}
 use native.Mathlib.Omega.{arith}
-use native.Mathlib.Nat.{mul-pos}
 use denote.Ref.{now}
 use lib.Ieee.{nan}
 use lib.ListN.{length-set}
 use Rattle.load.specs.Load.{mostByte}
 use Rattle.load.proofs.Planes.{Laid, laid-none, laid-more, laid-all}
-use Rattle.load.proofs.Shown.{valueAt, value-is}
+use Rattle.load.proofs.Shown.{shownAt, value-is}
 use borrow.Author.Needs.{needs}
 use Rattle.load.proofs.load_planes.Statement.{statement}
 use Rattle.load.proofs.load_planes.Tie as tie
 
 abbrev Inv-loop : tie.InvT-loop
-Inv-loop height width pixels planes₀ n i₀ planes i = (i ≤ n) × Laid nan (valueAt mostByte height width pixels) n i planes₀ planes
+Inv-loop height width pixels planes₀ n i₀ planes i = (i ≤ n) × Laid nan (shownAt mostByte height width pixels) n i planes₀ planes
 
 abbrev μ-loop : tie.MeasureT-loop
 μ-loop height width pixels planes₀ n i₀ planes i = n - i
@@ -111,7 +110,7 @@ returns : tie.Need-returns Inv-loop μ-loop
 returns c =
     let s = at-start (c .before) in
     let e : c .before .loop .i ≡ s .args .height * s .args .width = omega arith in
-    laid-all nan _ _ (mul-pos (s .pre .0 .0) (s .pre .0 .1)) (rw e at (c .before .loop .inv .1)) (s .pre .1 .1)
+    laid-all nan _ _ (rw e at (c .before .loop .inv .1)) (s .pre .1 .1)
 
 pub load-planes-spec : {M : Type 1} → statement M
 load-planes-spec =

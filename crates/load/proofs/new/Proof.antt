@@ -2,7 +2,7 @@
 use mathlib.Core.Path.{sym, _∙_}
 use native.Mathlib.Omega.{arith}
 use Rattle.load.specs.Load.{mostByte}
-use Rattle.load.proofs.Answers.{fit, refuses}
+use Rattle.load.proofs.Answers.{loadable, refuses}
 use borrow.Author.Needs.{needs}
 use Rattle.load.proofs.new.Statement.{statement}
 use Rattle.load.proofs.new.Tie as tie
@@ -18,7 +18,7 @@ returns c = refuses mostByte _ _ _ _ _ (c .before .before .load-answer .ensures)
 
 load-planes-requires : tie.Need-load-planes-requires
 load-planes-requires c κs =
-    let ok = fit _ _ _ _ (sym (c .before .before .load-answer .ensures) ∙ c .before .if1 .left) in
+    let ok = loadable _ _ _ _ (sym (c .before .before .load-answer .ensures) ∙ c .before .if1 .left) in
     ((omega (arith, ok .sides .low-h), omega (arith, ok .sides .low-w)), (ok .pixels-in, ok .planes-in))
 
 fresh-requires-2 : tie.Need-fresh-requires-2

@@ -2,13 +2,13 @@
 use mathlib.Core.Path.{_≡_, refl, sym, _∙_}
 use native.Mathlib.Omega.{arith}
 use denote.Ref.{now}
-use lib.ListN.{length, length-take}
+use lib.ListN.{length-take}
 use lib.Seq.{drop-at, length-take-le}
 use Rattle.board.specs.declared.Board.{Board}
 use Rattle.board.specs.Board.{leastSide}
 use Rattle.board.specs.Planes.{FitPlanes}
 use Rattle.locate.specs.Locate.{Lent, lent, checked}
-use Rattle.locate.specs.Steps.{Room}
+use Rattle.locate.specs.Steps.{NoneShort}
 use Rattle.locate.proofs.Checks.{fit}
 use Rattle.locate.proofs.Working.{refuses, accepts}
 use borrow.Author.Needs.{needs}
@@ -31,7 +31,7 @@ passed c = sym (c .before .check .ensures) ∙ c .if1 .left
 fits : (c : tie.Else1) → FitPlanes leastSide (board (c .before) .height) (board (c .before) .width) (slices (c .before) .planes)
 fits c = fit (board (c .before)) (slices (c .before)) (passed c) .0
 
-room : (c : tie.Else1) → Room (board (c .before) .height) (board (c .before) .width) (slices (c .before))
+room : (c : tie.Else1) → NoneShort (board (c .before) .height) (board (c .before) .width) (slices (c .before))
 room c = fit (board (c .before)) (slices (c .before)) (passed c) .1
 
 check-requires : tie.Need-check-requires
@@ -59,7 +59,9 @@ same-length-6 : tie.Need-same-length-6
 same-length-6 c = search needs
 
 returns : tie.Need-returns
-returns c = let at = c .before .before in refuses (board at) (slices at) _ (at .check .ensures) (c .before .if1 .taken) (c .declined .ensures)
+returns c =
+    let at = c .before .before in
+    refuses (board at) (slices at) _ (at .check .ensures) (c .before .if1 .taken) (c .declined .ensures)
 
 mul-n : tie.Need-mul-n
 mul-n c = omega (arith, fits (c .before) .sides .area)
@@ -74,19 +76,25 @@ slice-relend-prefix-work : tie.Need-slice-relend-prefix-work
 slice-relend-prefix-work c = omega (arith, room (c .before .before .before .before .before) .f32-in)
 
 slice-aggregate-work : tie.Need-slice-aggregate-work
-slice-aggregate-work c = sym (length-take-le _ _ (omega (arith, room (c .before .before .before .before .before .before) .f32-in)))
+slice-aggregate-work c =
+    let at = c .before .before .before .before .before .before in
+    sym (length-take-le _ _ (omega (arith, room at .f32-in)))
 
 slice-relend-prefix-work-2 : tie.Need-slice-relend-prefix-work-2
 slice-relend-prefix-work-2 c = omega (arith, room (c .before .before .before .before .before .before) .u8-in)
 
 slice-aggregate-work-2 : tie.Need-slice-aggregate-work-2
-slice-aggregate-work-2 c = sym (length-take-le _ _ (omega (arith, room (c .before .before .before .before .before .before .before) .u8-in)))
+slice-aggregate-work-2 c =
+    let at = c .before .before .before .before .before .before .before in
+    sym (length-take-le _ _ (omega (arith, room at .u8-in)))
 
 slice-relend-prefix-work-3 : tie.Need-slice-relend-prefix-work-3
 slice-relend-prefix-work-3 c = omega (arith, room (c .before .before .before .before .before .before .before) .u32-in)
 
 slice-aggregate-work-3 : tie.Need-slice-aggregate-work-3
-slice-aggregate-work-3 c = sym (length-take-le _ _ (omega (arith, room (c .before .before .before .before .before .before .before .before) .u32-in)))
+slice-aggregate-work-3 c =
+    let at = c .before .before .before .before .before .before .before .before in
+    sym (length-take-le _ _ (omega (arith, room at .u32-in)))
 
 work-requires : tie.Need-work-requires
 work-requires c κs =

@@ -26,8 +26,9 @@ enum-known-rows-2 c = search needs
 
 accepted-requires : tie.Need-accepted-requires
 accepted-requires c κs =
-    let columns = rw (c .before .before .before .before .columns2 .given .1) at (c .before .before .before .before .before .before .pre .0) in
-    let rows = rw (c .before .rows2 .given .1) at (c .before .before .before .before .before .before .pre .1) in
+    let start = c .before .before .before .before .before .before in
+    let columns = rw (c .before .before .before .before .columns2 .given .1) at (start .pre .0) in
+    let rows = rw (c .before .rows2 .given .1) at (start .pre .1) in
     (columns .0, columns .1, rows .0, rows .1)
 
 returns : tie.Need-returns

@@ -1,22 +1,33 @@
 -- `locate::read_from` meets its contract: the last bounds, widened, are fit for the scores, and both axes are read over them.
 use Prim.Native.Nat.{_-_, _*_}
-use mathlib.Core.Path.{_≡_, sym}
+use mathlib.Core.Path.{sym, subst}
 use native.Mathlib.Omega.{arith}
 use denote.Ref.{now}
 use lib.ListN.{take}
-use Rattle.axes.proofs.Scoring.{across-fit, down-fit, quarters-short}
+use Rattle.board.specs.declared.Bounds.{Bounds}
+use Rattle.axes.proofs.Scoring.{across-fit, down-fit, quarters-fit}
 use Rattle.strips.specs.States.{Scorable}
 use Rattle.locate.proofs.Leading.{picture-length, rows-in, scorable, room-for}
 use borrow.Author.Needs.{needs}
 use Rattle.locate.proofs.read_from.Statement.{statement}
 use Rattle.locate.proofs.read_from.Tie as tie
 
--- the widened bounds can be scored, and both lists be read
+-- the places that the others follow
+abbrev at-start : tie.After-widen → tie.Start
+at-start c = c .before .before .before .before .before .before .before .before .before .before
+
 abbrev at-widen : tie.After-read-axes → tie.After-widen
 at-widen c = c .before .before .before .before .before
 
-can-score : (c : tie.After-widen) → Scorable (take ((c .before .before .before .before .before .before .before .before .before .before .args .b .height - 2) * (c .before .before .before .before .before .before .before .before .before .before .args .b .width - 2)) (now (c .before .before .before .before .before .before .before .before .before .before .args .edges))) (c .before .before .before .before .before .before .before .before .before .before .args .b .width - 2) (c .widen .result)
-can-score c = rw (c .widen .ensures) (scorable (c .before .before .before .before .before .before .before .before .before .before .pre))
+-- the picture that was handed in can be scored over these bounds
+abbrev ScorableOn : tie.Start → Bounds → Type 0
+ScorableOn s bounds =
+    let b = s .args .b in
+    Scorable (take ((b .height - 2) * (b .width - 2)) (now (s .args .edges))) (b .width - 2) bounds
+
+-- so it can over the widened ones, and both lists be read
+can-score : (c : tie.After-widen) → ScorableOn (at-start c) (c .widen .result)
+can-score c = subst (ScorableOn (at-start c)) (sym (c .widen .ensures)) (scorable (at-start c .pre))
 
 sub-stride : tie.Need-sub-stride
 sub-stride c = search needs
@@ -49,13 +60,13 @@ widen-requires c κs =
     )
 
 slice-aggregate-read-axes : tie.Need-slice-aggregate-read-axes
-slice-aggregate-read-axes c = sym (picture-length (c .before .before .before .before .before .before .before .before .before .before .before .pre))
+slice-aggregate-read-axes c = sym (picture-length (at-start (c .before) .pre))
 
 read-axes-requires : tie.Need-read-axes-requires
 read-axes-requires c κs =
-    let g = c .before .before .before .before .before .before .before .before .before .before .before .before .before .before .pre in
-    let e = c .before .before .before .before .widen .ensures in
-    (rw e (scorable g), rw e (room-for g))
+    let at = c .before .before .before .before in
+    let g = at-start at .pre in
+    (rw (at .widen .ensures) (scorable g), rw (at .widen .ensures) (room-for g))
 
 resized-requires : tie.Need-resized-requires
 resized-requires c κs = search needs
@@ -65,8 +76,8 @@ joined-requires c κs =
     let read = c .before .before .before .before .before .before .before in
     let at = at-widen read in
     let is = read .read-axes .ensures in (
-      rw (is .columns-are) (quarters-short _ (across-fit _ _ (is .scores-are) (can-score at))),
-      rw (is .rows-are) (quarters-short _ (down-fit _ _ (is .scores-are) (can-score at))),
+      rw (is .columns-are) (quarters-fit _ (across-fit _ _ (is .scores-are) (can-score at))),
+      rw (is .rows-are) (quarters-fit _ (down-fit _ _ (is .scores-are) (can-score at))),
     )
 
 same-length : tie.Need-same-length

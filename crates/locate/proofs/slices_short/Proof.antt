@@ -1,5 +1,5 @@
 -- `locate::slices_short` meets its contract: within the limits no number wraps, and each way out is the first slice that is short.
-use mathlib.Core.Path.{_≡_, sym, _∙_}
+use mathlib.Core.Path.{sym, _∙_}
 use mathlib.Core.Bool.{true≢false}
 use native.Mathlib.Omega.{arith}
 use borrow.Author.Tests.{lt-ltb, le-ltb}
@@ -18,7 +18,8 @@ returns : tie.Need-returns
 returns c = λ e. absurd (true≢false (sym (c .if1 .taken) ∙ (c .before .sides-outside .ensures ∙ e)))
 
 -- the sides are within the limits
-sides : (c : tie.Else1) → SidesIn leastSide (c .before .before .before .before .before .before .before .args .height) (c .before .before .before .before .before .before .before .args .width)
+sides : (c : tie.Else1) → let a = c .before .before .before .before .before .before .before .args in
+    SidesIn leastSide (a .height) (a .width)
 sides c = sides-in leastSide _ _ (sym (c .before .sides-outside .ensures) ∙ c .if1 .left)
 
 mul-n : tie.Need-mul-n
@@ -41,7 +42,13 @@ returns-4 c = λ _. rw (le-ltb _ _ (c .before .before .if2 .left), le-ltb _ _ (c
 
 returns-5 : tie.Need-returns-5
 unfolding slicesShort
-returns-5 c = λ _. rw (le-ltb _ _ (c .before .before .before .if2 .left), le-ltb _ _ (c .before .before .if3 .left), le-ltb _ _ (c .before .if4 .left), lt-ltb _ _ (c .if5 .taken))
+returns-5 c = λ _.
+    rw (
+      le-ltb _ _ (c .before .before .before .if2 .left),
+      le-ltb _ _ (c .before .before .if3 .left),
+      le-ltb _ _ (c .before .if4 .left),
+      lt-ltb _ _ (c .if5 .taken),
+    )
 
 add-result : tie.Need-add-result
 add-result c = let s = sides (c .before .before .before .before) in omega (arith, s .high-h, s .high-w)
@@ -51,7 +58,13 @@ mul-result c = let s = sides (c .before .before .before .before) in omega (arith
 
 returns-6 : tie.Need-returns-6
 unfolding slicesShort
-returns-6 c = λ _. rw (le-ltb _ _ (c .before .before .before .if2 .left), le-ltb _ _ (c .before .before .if3 .left), le-ltb _ _ (c .before .if4 .left), le-ltb _ _ (c .if5 .left))
+returns-6 c = λ _.
+    rw (
+      le-ltb _ _ (c .before .before .before .if2 .left),
+      le-ltb _ _ (c .before .before .if3 .left),
+      le-ltb _ _ (c .before .if4 .left),
+      le-ltb _ _ (c .if5 .left),
+    )
 
 pub slices-short-spec : {M : Type 1} → statement M
 slices-short-spec =

@@ -2,10 +2,11 @@
 use Prim.Native.Nat.{_*_, _/_, _≤_}
 use native.Mathlib.Omega.{arith}
 use denote.Ref.{now}
-use Rattle.lists.proofs.Front.{front-part, front-behind}
+use Rattle.lists.proofs.Front.{front-part, front-kept, front-behind}
 use Rattle.board.specs.Screen.{Screen, view}
+use Rattle.board.proofs.Packed.{length-packed}
 use Rattle.narrow.specs.Narrow.{narrowed}
-use Rattle.narrow.proofs.Packed.{shrinks, length-packed, front-kept}
+use Rattle.narrow.proofs.Packed.{shrinks}
 use borrow.Author.Needs.{needs}
 use Rattle.narrow.proofs.narrow.Statement.{statement}
 use Rattle.narrow.proofs.narrow.Tie as tie

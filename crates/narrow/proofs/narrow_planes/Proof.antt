@@ -2,17 +2,19 @@
 -- was. What falls: the rows left.
 use Prim.Native.Nat.{_+_, _-_, _*_, _/_, _≤_}
 use mathlib.Core.Path.{_≡_, refl}
-use native.Mathlib.Nat.{zero-mul, div-lt-iff-lt-mul, mod-lt}
+use native.Mathlib.Nat.{zero-mul}
 use native.Mathlib.Omega.{arith}
 use denote.Ref.{now}
 use lib.ListN.{length-drop}
 use Rattle.lists.specs.Front.{AtFront}
 use Rattle.lists.specs.Tab.{grid}
 use Rattle.lists.proofs.Front.{front-none}
+use Rattle.lists.proofs.Grid.{row-column}
 use Rattle.lists.proofs.Part.{mid-rest}
 use Rattle.board.specs.Screen.{view}
 use Rattle.narrow.specs.Narrow.{narrowed}
-use Rattle.narrow.proofs.Packed.{rowsOf, packed-rows, next-row, row-in}
+use Rattle.board.proofs.Packed.{planeRows, packed-rows}
+use Rattle.narrow.proofs.Packed.{next-row, row-in}
 use borrow.Author.Needs.{needs}
 use Rattle.narrow.proofs.narrow_planes.Statement.{statement}
 use Rattle.narrow.proofs.narrow_planes.Tie as tie
@@ -20,7 +22,7 @@ use Rattle.narrow.proofs.narrow_planes.Tie as tie
 abbrev Inv-loop : tie.InvT-loop
 Inv-loop height width planes out₀ rows columns r₀ r-end out r =
     (r ≤ 3 * (height / 3)) × (r-end ≡ 3 * (height / 3))
-    × AtFront (grid r (width / 3) (rowsOf (narrowed 3 (view height width planes)))) out₀ out
+    × AtFront (grid r (width / 3) (planeRows (narrowed 3 (view height width planes)))) out₀ out
 
 abbrev μ-loop : tie.MeasureT-loop
 μ-loop height width planes out₀ rows columns r₀ r-end out r = 3 * (height / 3) - r
@@ -65,10 +67,11 @@ narrow-row-requires : tie.Need-narrow-row-requires Inv-loop μ-loop
 narrow-row-requires c κs =
     let turn = c .before in
     let r = turn .before .loop .r in
-    let start = at-start (turn .before) in (
+    let start = at-start (turn .before) in
+    let at = row-column 3 (start .args .height / 3) r (turn .loop-test .taken) in (
       start .pre .0,
-      div-lt-iff-lt-mul {k = start .args .height / 3} {x = r} {y = 3} (omega arith) .1 (turn .loop-test .taken),
-      mod-lt r (omega arith),
+      at .0,
+      at .1,
       rw (mid-rest (r * (start .args .width / 3)) (turn .before .loop .out), length-drop) (omega (arith, place turn)),
     )
 

@@ -11,11 +11,11 @@ use Rattle.lists.specs.Front.{AtFront}
 use Rattle.board.specs.Board.{leastPlaneSide}
 use Rattle.board.specs.Planes.{SidesIn}
 use Rattle.gradient.specs.Gradient.{gradients}
-use Rattle.gradient.proofs.Laws.{length-gradients}
+use Rattle.gradient.proofs.Laws.{inner-le, length-gradients}
 use Rattle.edges.specs.Edges.{edges}
 use Rattle.edges.proofs.Laws.{length-edges, all-plain}
 use Rattle.bounds.specs.Bounds.{boundsOf}
-use Rattle.narrowings.proofs.Looking.{inner-le, gradients-in, gradients-part, edges-in, edges-part, edged}
+use Rattle.narrowings.proofs.Looking.{gradients-in, gradients-part, edges-in, edges-part, edged}
 use borrow.Author.Needs.{needs}
 use Rattle.narrowings.proofs.look.Statement.{statement}
 use Rattle.narrowings.proofs.look.Tie as tie
@@ -24,25 +24,29 @@ use Rattle.narrowings.proofs.look.Tie as tie
 abbrev at-gradients : tie.After-edges-of → tie.After-gradient-of
 at-gradients c = c .before .before .before .before .before
 
+abbrev at-start : tie.After-gradient-of → tie.Start
+at-start c = c .before .before .before .before .before
+
 abbrev height : tie.After-gradient-of → ℕ
-height c = c .before .before .before .before .before .args .height
+height c = at-start c .args .height
 
 abbrev width : tie.After-gradient-of → ℕ
-width c = c .before .before .before .before .before .args .width
+width c = at-start c .args .width
 
 abbrev planes : tie.After-gradient-of → List Float
-planes c = now (c .before .before .before .before .before .args .planes)
+planes c = now (at-start c .args .planes)
 
 sides : (c : tie.After-gradient-of) → SidesIn leastPlaneSide (height c) (width c)
-sides c = c .before .before .before .before .before .pre .0 .sides
+sides c = at-start c .pre .0 .sides
 
 -- what each call leaves
-gradients-are : (c : tie.After-gradient-of) → take ((height c - 2) * (width c - 2)) (c .gradient-of .last .1 .1 .1 .0) ≡ gradients (height c) (width c) (planes c)
+gradients-are : (c : tie.After-gradient-of)
+    → take ((height c - 2) * (width c - 2)) (c .gradient-of .last .1 .1 .1 .0) ≡ gradients (height c) (width c) (planes c)
 gradients-are c = gradients-part (height c) (width c) (planes c) (c .gradient-of .ensures)
 
 edges-are : (c : tie.After-edges-of)
     → AtFront (edges (height (at-gradients c)) (width (at-gradients c)) (planes (at-gradients c)))
-    (now (c .before .before .before .before .before .before .before .before .before .before .args .edges)) (c .edges-of .last .1 .1 .1 .0)
+    (now (at-start (at-gradients c) .args .edges)) (c .edges-of .last .1 .1 .1 .0)
 edges-are c =
     let g = at-gradients c in
     edged (height g) (width g) (planes g) _ (gradients-are g) (c .edges-of .ensures)
@@ -65,13 +69,15 @@ slice-reshare-prefix-edges-of : tie.Need-slice-reshare-prefix-edges-of
 slice-reshare-prefix-edges-of c = let g = c .before .before in gradients-in (height g) (width g) (planes g) (g .gradient-of .ensures)
 
 slice-aggregate-edges-of : tie.Need-slice-aggregate-edges-of
-slice-aggregate-edges-of c = let g = c .before .before .before in sym (ap length (gradients-are g) ∙ length-gradients (height g) (width g) (planes g))
+slice-aggregate-edges-of c =
+    let g = c .before .before .before in
+    sym (ap length (gradients-are g) ∙ length-gradients (height g) (width g) (planes g))
 
 edges-of-requires : tie.Need-edges-of-requires
 edges-of-requires c κs =
     let g = c .before .before .before .before in
     let s = sides g in
-    let start = g .before .before .before .before .before in
+    let start = at-start g in
     let long = ap length (gradients-are g) ∙ length-gradients (height g) (width g) (planes g) in (
       (
         omega (arith, s .low-h),

@@ -1,5 +1,5 @@
 -- `narrowings::narrow_on` meets its contract. The invariant: the loop from the start is the loop from here. The height falls.
-use Prim.Native.Nat.{ℕ, _/_, _≤_}
+use Prim.Native.Nat.{_/_}
 use mathlib.Core.Path.{_≡_, refl, sym, _∙_}
 use mathlib.Core.Bool.{true, false}
 use native.Mathlib.Omega.{arith}
@@ -7,48 +7,54 @@ use denote.Ref.{now}
 use lib.ListN.{length}
 use Rattle.board.specs.Board.{leastPlaneSide}
 use Rattle.board.proofs.Planes.{fit-lower}
-use Rattle.narrow.proofs.Laws.{smaller}
-use Rattle.narrowings.specs.Loop.{Stage, stage, boundsIn, thin, small, next}
-use Rattle.narrowings.proofs.Turns.{Going, Sound, going-first, going-on, sound-next, ordered, narrows-end, narrows-small}
+use Rattle.narrowings.specs.Loop.{Stage, stage, boundsIn, thin, small}
+use Rattle.narrowings.proofs.Turns.{by-three, Going, Sound, going-first, going-on, sound-next, ordered, narrows-end, narrows-small}
 use borrow.Author.Needs.{needs}
 use Rattle.narrowings.proofs.narrow_on.Statement.{statement}
 use Rattle.narrowings.proofs.narrow_on.Tie as tie
 
-two : 2 ≤ 3
-two = omega arith
-
 abbrev Inv-loop : tie.InvT-loop
 Inv-loop height width planes₀ f32₀ u8₀ h₀ w₀ b₀ n₀ planes f32 u8 h w b n =
-    Going 3 two height width planes₀ (stage h w planes n) × (b ≡ boundsIn (stage h w planes n)) × (length f32 ≡ length f32₀) × (length u8 ≡ length u8₀)
+    Going 3 by-three height width planes₀ (stage h w planes n)
+    × (b ≡ boundsIn (stage h w planes n))
+    × (length f32 ≡ length f32₀)
+    × (length u8 ≡ length u8₀)
 
 abbrev μ-loop : tie.MeasureT-loop
 μ-loop height width planes₀ f32₀ u8₀ h₀ w₀ b₀ n₀ planes f32 u8 h w b n = h
 
--- after a narrowing: the screen before it, what holds of it, and what was asked at the start
-abbrev here : tie.After-narrow Inv-loop μ-loop → Stage
-here c = let at = c .before .before .before .before .before .loop in stage (at .h) (at .w) (at .planes) (at .n)
+-- the places that the others follow
+abbrev at-start : tie.At-loop Inv-loop μ-loop → tie.Start Inv-loop μ-loop
+at-start c = c .before .before .before .before
 
-abbrev height : tie.After-narrow Inv-loop μ-loop → ℕ
-height c = c .before .before .before .before .before .before .before .before .before .args .height
-
-abbrev width : tie.After-narrow Inv-loop μ-loop → ℕ
-width c = c .before .before .before .before .before .before .before .before .before .args .width
+abbrev at-loop : tie.After-narrow Inv-loop μ-loop → tie.At-loop Inv-loop μ-loop
+at-loop c = c .before .before .before .before .before
 
 abbrev at-narrow : tie.After-small Inv-loop μ-loop → tie.After-narrow Inv-loop μ-loop
 at-narrow c = c .before .before .before .before .before
 
-sound : (c : tie.After-narrow Inv-loop μ-loop) → Sound (height c) (width c) (length (now (c .before .before .before .before .before .before .before .before .before .args .planes))) (here c)
-sound c = c .before .before .before .before .before .loop .inv .0 .sound
+-- after a narrowing: the screen before it, what holds of it, and what was asked at the start
+abbrev begun : tie.After-narrow Inv-loop μ-loop → tie.Start Inv-loop μ-loop
+begun c = at-start (at-loop c)
+
+abbrev here : tie.After-narrow Inv-loop μ-loop → Stage
+here c = let at = at-loop c .loop in stage (at .h) (at .w) (at .planes) (at .n)
+
+sound : (c : tie.After-narrow Inv-loop μ-loop) → let a = begun c .args in
+    Sound (a .height) (a .width) (length (now (a .planes))) (here c)
+sound c = at-loop c .loop .inv .0 .sound
 
 is-thin : (c : tie.After-narrow Inv-loop μ-loop) → thin (here c .height) (here c .width) (boundsIn (here c)) ≡ true
-is-thin c = rw (c .before .before .before .before .before .loop .inv .1) at (sym (c .before .before .before .before .thin .ensures) ∙ c .before .before .before .if1 .taken)
+is-thin c =
+    let test = c .before .before .before in
+    rw (at-loop c .loop .inv .1) at (sym (test .before .thin .ensures) ∙ test .if1 .taken)
 
 -- not too small, so that the loop goes on
-goes-on : (c : tie.Else2 Inv-loop μ-loop) → small (here (at-narrow (c .before)) .height / 3) (here (at-narrow (c .before)) .width / 3) ≡ false
+goes-on : (c : tie.Else2 Inv-loop μ-loop) → let s = here (at-narrow (c .before)) in small (s .height / 3) (s .width / 3) ≡ false
 goes-on c = sym (c .before .small .ensures) ∙ c .if2 .left
 
 loop-holds : tie.Need-loop-holds Inv-loop μ-loop
-loop-holds c = let ask = c .before .before .before .pre .0 in (going-first 3 two (ask .0), ask .1, refl, refl)
+loop-holds c = let ask = c .before .before .before .pre .0 in (going-first 3 by-three (ask .0), ask .1, refl, refl)
 
 thin-requires : tie.Need-thin-requires Inv-loop μ-loop
 thin-requires c κs =
@@ -59,15 +65,20 @@ thin-requires c κs =
 
 narrow-requires : tie.Need-narrow-requires Inv-loop μ-loop
 narrow-requires c κs =
-    let inv = c .before .before .before .before .loop .inv in
+    let at = c .before .before .before .before in
+    let inv = at .loop .inv in
     let s = inv .0 .sound in
-    (fit-lower 0 (omega arith) (s .fit), omega (arith, s .area, inv .2, c .before .before .before .before .before .before .before .before .pre .1 .0))
+    (fit-lower 0 (omega arith) (s .fit), omega (arith, s .area, inv .2, at-start at .pre .1 .0))
 
 add-n : tie.Need-add-n Inv-loop μ-loop
-add-n c = let at = c .before .before .before .before .before .before .before .before .before in omega (arith, at .loop .inv .0 .counted, at .before .before .before .before .pre .0 .0 .sides .high-h)
+add-n c =
+    let at = c .before .before .before .before .before .before .before .before .before in
+    omega (arith, at .loop .inv .0 .counted, at-start at .pre .0 .0 .sides .high-h)
 
 small-requires : tie.Need-small-requires Inv-loop μ-loop
-small-requires c κs = let s = c .before .before .before .before .before .before .before .before .before .loop .inv .0 .sound .fit .sides in (omega (arith, s .low-h), omega (arith, s .low-w))
+small-requires c κs =
+    let s = c .before .before .before .before .before .before .before .before .before .loop .inv .0 .sound .fit .sides in
+    (omega (arith, s .low-h), omega (arith, s .low-w))
 
 same-length : tie.Need-same-length Inv-loop μ-loop
 same-length c = search needs
@@ -81,27 +92,36 @@ same-length-3 c = search needs
 returns : tie.Need-returns Inv-loop μ-loop
 returns c =
     let m = at-narrow (c .before) in
-    narrows-small 3 two (m .before .before .before .before .before .loop .inv .0) (is-thin m) (sym (c .before .small .ensures) ∙ c .if2 .taken) (m .narrow .ensures .0)
+    narrows-small 3 by-three (at-loop m .loop .inv .0) (is-thin m) (sym (c .before .small .ensures) ∙ c .if2 .taken)
+    (m .narrow .ensures .0)
 
 look-requires : tie.Need-look-requires Inv-loop μ-loop
 look-requires c κs =
     let other = c .before .before .before in
     let m = at-narrow (other .before) in
-    let next-is = sound-next 3 two (sound m) (goes-on other) in
-    let inv = m .before .before .before .before .before .loop .inv in
-    let ask = m .before .before .before .before .before .before .before .before .before .pre .1 in
-    (rw (m .narrow .ensures .0) (fit-lower leastPlaneSide (omega arith) (next-is .fit)), (omega (arith, next-is .area, inv .2, ask .0), omega (arith, next-is .area, inv .3, ask .1)))
+    let next-is = sound-next 3 by-three (sound m) (goes-on other) in
+    let inv = at-loop m .loop .inv in
+    let ask = begun m .pre .1 in (
+      rw (m .narrow .ensures .0) (fit-lower leastPlaneSide (omega arith) (next-is .fit)),
+      (omega (arith, next-is .area, inv .2, ask .0), omega (arith, next-is .area, inv .3, ask .1)),
+    )
 
 loop-less : tie.Need-loop-less Inv-loop μ-loop
-loop-less c = omega (arith, sound (at-narrow (c .before .before .before .before .before .before .before .before .before)) .fit .sides .low-h)
+loop-less c =
+    let m = at-narrow (c .before .before .before .before .before .before .before .before .before) in
+    omega (arith, sound m .fit .sides .low-h)
 
 loop-again : tie.Need-loop-again Inv-loop μ-loop
 loop-again c =
     let other = c .before .before .before .before .before .before .before .before in
     let m = at-narrow (other .before) in
-    let inv = m .before .before .before .before .before .loop .inv in
-    let e = m .narrow .ensures .0 in
-    (rw e (going-on 3 two (inv .0) (is-thin m) (goes-on other)), c .before .before .before .before .look .ensures .bounds-are, omega (arith, inv .2), omega (arith, inv .3))
+    let inv = at-loop m .loop .inv in
+    let e = m .narrow .ensures .0 in (
+      rw e (going-on 3 by-three (inv .0) (is-thin m) (goes-on other)),
+      c .before .before .before .before .look .ensures .bounds-are,
+      omega (arith, inv .2),
+      omega (arith, inv .3),
+    )
 
 same-length-4 : tie.Need-same-length-4 Inv-loop μ-loop
 same-length-4 c = search needs
@@ -113,7 +133,9 @@ same-length-6 : tie.Need-same-length-6 Inv-loop μ-loop
 same-length-6 c = search needs
 
 returns-2 : tie.Need-returns-2 Inv-loop μ-loop
-returns-2 c = let inv = c .before .before .loop .inv in narrows-end 3 two (inv .0) (inv .1) (sym (c .before .thin .ensures) ∙ c .if1 .left)
+returns-2 c =
+    let inv = c .before .before .loop .inv in
+    narrows-end 3 by-three (inv .0) (inv .1) (sym (c .before .thin .ensures) ∙ c .if1 .left)
 
 pub narrow-on-spec : {M : Type 1} → statement M
 narrow-on-spec =

@@ -1,6 +1,6 @@
 -- `reply::reply` meets its contract: the two lines are those of the values that `answer_to` hands back for the bytes read, which are
 -- enough (Room). Fourteen numbers fit into 380 bytes.
-use mathlib.Core.Path.{refl, sym, ap, _∙_}
+use mathlib.Core.Path.{sym, ap, _∙_}
 use native.Mathlib.Omega.{arith}
 use denote.Ref.{now}
 use lib.Seq.{length-take-le}

@@ -1,7 +1,6 @@
 -- `reply::values_of` meets its contract: planes of 3 h w values hold what is loaded, and locating's checks pass on them.
 use mathlib.Core.Path.{sym, _∙_}
 use native.Mathlib.Omega.{arith}
-use denote.Ref.{now}
 use Rattle.reply.proofs.Locating.{area}
 use Rattle.reply.proofs.Printed.{size, refused, inside, lent-length, lent-fit, prints}
 use borrow.Author.Needs.{needs}

@@ -8,7 +8,7 @@ use Rattle.lists.specs.Front.{AtFront}
 use Rattle.lists.specs.Tab.{grid}
 use Rattle.lists.proofs.Front.{front-none, front-row}
 use Rattle.lists.proofs.Grid.{row-fits}
-use Rattle.sample.proofs.Answers.{Fit, fit}
+use Rattle.sample.proofs.Answers.{CellIn, cell-in}
 use Rattle.sample.proofs.Cells.{cellPlane, PlacesAre, place-in, plane-is}
 use borrow.Author.Needs.{needs}
 use Rattle.sample.proofs.copy_cell.Statement.{statement}
@@ -35,8 +35,8 @@ begun c = at-start (at-known (at-places c))
 
 -- what the answer 0 tells, and the places
 fits : (c : tie.After-slice-known Inv-loop μ-loop) → let s = at-start c .args in
-    Fit (s .b) (s .x) (s .y) (s .size) (length (s .out .now))
-fits c = fit _ _ _ _ _ (at-start c .pre .1)
+    CellIn (s .b) (s .x) (s .y) (s .size) (length (s .out .now))
+fits c = cell-in _ _ _ _ _ (at-start c .pre .1)
 
 placed : (c : tie.After-places2 Inv-loop μ-loop) → let s = at-start (at-known c) .args in
     PlacesAre (s .b) (s .x) (s .y) (s .size) (length (s .out .now)) (c .before .places .result) (c .places2 .result)

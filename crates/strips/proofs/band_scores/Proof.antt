@@ -5,7 +5,7 @@ use native.Mathlib.Omega.{arith}
 use denote.Ref.{now}
 use lib.ListN.{length, length-take}
 use lib.Seq.{length-take-le}
-use Rattle.lists.proofs.Fill.{tab-same}
+use Rattle.lists.proofs.Tab.{tab-same}
 use Rattle.strips.proofs.Turning.{turned-marks, turned-score}
 use borrow.Author.Needs.{needs}
 use Rattle.strips.proofs.band_scores.Statement.{statement}
@@ -56,7 +56,7 @@ sweep-scores-requires c κs =
       omega arith,
       omega arith,
       simp length-take (omega (arith, u .len)),
-      turned-marks u (omega arith) (omega (arith, u .len)) (p .5),
+      turned-marks u (omega (arith, u .len)) (p .5),
     )
 
 same-length : tie.Need-same-length

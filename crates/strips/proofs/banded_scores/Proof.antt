@@ -8,7 +8,7 @@ use borrow.Rule.Slice.PartMut.{midOf, mid-len}
 use lib.ListN.{length}
 use Rattle.lists.specs.Front.{AtFront}
 use Rattle.lists.specs.Picture.{points}
-use Rattle.lists.proofs.Fill.{length-tabFrom}
+use Rattle.lists.proofs.Tab.{length-tabFrom}
 use Rattle.lists.proofs.Front.{front-none, front-all}
 use Rattle.lanes.specs.Sweep.{sweptScores}
 use Rattle.strips.proofs.Bands.{band-in, scratch-in, front-band}

@@ -1,6 +1,6 @@
 -- `text::put_number` meets its contract: the last digit stands behind those of the tenth, which a call of its own writes. The number falls.
-use Prim.Native.Nat.{_+_, _/_, _%_, _^_, _≤_}
-use mathlib.Core.Path.{sym, ap}
+use Prim.Native.Nat.{_+_, _/_, _%_, _≤_}
+use mathlib.Core.Path.{ap}
 use mathlib.Core.List.{[], _∷_}
 use native.Mathlib.Omega.{arith}
 use denote.Ref.{now}
