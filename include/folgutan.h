@@ -179,7 +179,7 @@ folgutan_located folgutan_locate(folgutan_board board,
 typedef struct {
     uint32_t answer;
     float pitch;    /* in pixels, a multiple of 0.25: 8.0 to 200.0 */
-    size_t offset;  /* of the first line */
+    size_t offset;  /* that the pitch is counted from */
     size_t count;   /* of cells; it can be 0 */
     size_t votes;   /* of this pitch with this offset: at least 1 */
 } folgutan_reading;

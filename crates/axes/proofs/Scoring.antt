@@ -10,7 +10,7 @@ use Rattle.lists.specs.Front.{AtFront}
 use Rattle.lists.specs.Picture.{flip}
 use Rattle.board.specs.declared.Bounds.{Bounds}
 use Rattle.strips.specs.Strip.{placeCount, scores, columnScores, rowScores}
-use Rattle.strips.specs.States.{Scorable}
+use Rattle.strips.specs.Parts.{Scorable}
 use Rattle.strips.proofs.Scores.{length-scores, scores-most, count-least, count-most}
 use Rattle.lines.specs.Lines.{InLimits}
 use Rattle.lines.proofs.Windows.{largest-le}

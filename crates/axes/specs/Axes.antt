@@ -9,7 +9,7 @@ use Rattle.strips.specs.Strip.{placeCount, columnScores, rowScores}
 use Rattle.reading.specs.declared.Quarters.{Quarters}
 use Rattle.reading.specs.declared.Quarters.the-variants.{Read, Refused}
 use Rattle.reading.specs.Reading.{quartersOf}
-use Rattle.axes.specs.declared.Axes.{Axes}
+use Rattle.axes.specs.declared.Readings.{Readings}
 
 -- how many scores both axes have
 abbrev pub bothCounts : Bounds → ℕ
@@ -22,7 +22,7 @@ pub record RoomFor (b : Bounds) (scores turned words : ℕ) : Type 0 where
   pub words-in : 4 * bothCounts b ≤ words
 
 -- column scores, then row scores, at the front of the score slice, and what each list reads as
-pub record ReadsAxes (E : ℕ → ℕ → Bool) (b : Bounds) (before : List ℕ) (r : Axes) (after : List ℕ) : Type 0 where
+pub record ReadsAxes (E : ℕ → ℕ → Bool) (b : Bounds) (before : List ℕ) (r : Readings) (after : List ℕ) : Type 0 where
   pub columns-are : r .columns ≡ quartersOf (columnScores E b)
   pub rows-are : r .rows ≡ quartersOf (rowScores E b)
   pub scores-are : AtFront (columnScores E b ++ rowScores E b) before after

@@ -7,13 +7,13 @@ ghost use lib.ListN.{length};
 ghost use Rattle.lists.specs.Front.{AtFront};
 ghost use Rattle.lists.specs.Picture.{points};
 ghost use Rattle.strips.specs.Strip.{placeCount, columnScores, rowScores};
-ghost use Rattle.strips.specs.States.{Scorable};
+ghost use Rattle.strips.specs.Parts.{Scorable};
 ghost use Rattle.axes.specs.Axes.{bothCounts, RoomFor, ReadsAxes};
 use board::Bounds;
 use reading::Quarters;
 
 // What the columns and the rows read as.
-pub struct Axes {
+pub struct Readings {
     pub columns: Quarters,
     pub rows: Quarters,
 }
@@ -39,7 +39,7 @@ pub fn read_axes(
     scores: &mut [u32],
     turned: &mut [u8],
     words: &mut [u32],
-) -> Axes
+) -> Readings
     requires { ⌜ Scorable (now edges) stride b × RoomFor b (length (now scores)) (length (now turned)) (length (now words)) ⌝ }
     ensures { λ r. ⌜ ReadsAxes (points stride 1 (now (edges .entry))) b (now (scores .entry)) r (now (scores .exit)) ⌝ }
 {
@@ -48,7 +48,7 @@ pub fn read_axes(
     let end = across + strips::place_count(b.r_1, b.r_2);
     let columns = reading::quarters_of(&scores[..across], words);
     let rows = reading::quarters_of(&scores[across..end], words);
-    Axes {
+    Readings {
         columns: columns,
         rows: rows,
     }

@@ -10,7 +10,7 @@ use Rattle.edges.specs.Edges.{middle, clip, AllPlain}
 use Rattle.edges.specs.declared.Range.{Range}
 
 -- what the search asks of the gradients: their sides, and that each is a plain value
-pub record Gradients (row column : ℕ) (g : List Float) : Type 0 where
+pub record GradientsFit (row column : ℕ) (g : List Float) : Type 0 where
   pub row-in : row ≤ 4094
   pub column-in : column ≤ 4094
   pub long : length g ≡ row * column

@@ -11,7 +11,7 @@ ghost use Rattle.rank.specs.Rank.{countAtMost};
 ghost use Rattle.edges.specs.Edges as Spec;
 ghost use Rattle.edges.specs.Edges.{sample, rankOf, threshold, marked, AllPlain, EdgesFit};
 ghost use Rattle.edges.specs.Counts as Counts;
-ghost use Rattle.edges.specs.Counts.{Gradients, part, start, sought, Cut};
+ghost use Rattle.edges.specs.Counts.{GradientsFit, part, start, sought, Cut};
 
 // The bits of 0.01 and of 1.0, the limits of the threshold.
 const LEAST_BITS: u32 = 0x3C23D70A;
@@ -95,7 +95,7 @@ fn row_start(
 // How many values of a part of the sample are at most the value with these bits.
 fn count_part(every: usize, parts: usize, row: usize, column: usize, g: &[f32], bits: u32) -> u32
     requires { ⌜ (1 ≤ every) × (1 ≤ parts) × (bits ≤ 0x7F800000) ⌝ }
-    requires { ⌜ Gradients row column (now g) ⌝ }
+    requires { ⌜ GradientsFit row column (now g) ⌝ }
     ensures { λ r. ⌜ r ≡ countAtMost (toBits binary32) bits (part every parts row column (now (g .entry))) ⌝ }
 {
     let rows = taken(every, row);
@@ -222,7 +222,7 @@ fn rank_in_part(s: Seen, rank: u32) -> u64 {
 // Where entry `rank` of the part lies, as near as the range allows.
 fn guess(row: usize, column: usize, g: &[f32], rank: u64, from: Range) -> u32
     requires { ⌜ (from .lo ≤ from .hi) × (from .hi ≤ 0x3F800000) ⌝ }
-    requires { ⌜ Gradients row column (now g) ⌝ }
+    requires { ⌜ GradientsFit row column (now g) ⌝ }
     ensures { λ r. ⌜ (from .lo ≤ r) × (r ≤ from .hi) ⌝ }
 {
     let mut range = from;
@@ -251,7 +251,7 @@ fn near_end(r: Range, reach: u32, from_lo: bool) -> u32
 // Where to count next.
 fn next_count(row: usize, column: usize, g: &[f32], rank: u32, range: Range, seen: Seen) -> u32
     requires { ⌜ (range .lo < range .hi) × (range .hi ≤ 0x3F800000) ⌝ }
-    requires { ⌜ Gradients row column (now g) ⌝ }
+    requires { ⌜ GradientsFit row column (now g) ⌝ }
     ensures { λ mid. ⌜ (range .lo ≤ mid) × (mid < range .hi) ⌝ }
 {
     if guessing(seen) {
@@ -267,7 +267,7 @@ fn next_count(row: usize, column: usize, g: &[f32], rank: u32, range: Range, see
 
 // The bits of the clipped entry `rank` of the sample, found by counting: no sort, no copy.
 fn threshold_bits(row: usize, column: usize, g: &[f32], rank: u32) -> u32
-    requires { ⌜ Gradients row column (now g) ⌝ }
+    requires { ⌜ GradientsFit row column (now g) ⌝ }
     ensures { λ r. ⌜ (rank < length (sample row column (now (g .entry))) → r ≡ sought (sample row column (now (g .entry))) rank) ⌝ }
     ensures { λ r. ⌜ r ≤ 0x3F800000 ⌝ }
 {
@@ -288,7 +288,7 @@ fn threshold_bits(row: usize, column: usize, g: &[f32], rank: u32) -> u32
 
 fn threshold_of(row: usize, column: usize, g: &[f32]) -> f32
     requires { ⌜ (2 ≤ row) × (2 ≤ column) ⌝ }
-    requires { ⌜ Gradients row column (now g) ⌝ }
+    requires { ⌜ GradientsFit row column (now g) ⌝ }
     ensures { λ r. ⌜ r ≡ threshold row column (now (g .entry)) ⌝ }
 {
     let rank = rank_of(middle(row) * middle(column));

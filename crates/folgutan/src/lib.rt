@@ -5,7 +5,7 @@ ghost use Prim.Native.Nat.{_*_};
 ghost use lib.ListN.{length, drop};
 ghost use Rattle.load.specs.Load.{mostByte, LoadGives};
 ghost use Rattle.gradient.specs.Gradient.{GradientGives};
-ghost use Rattle.reading.specs.Reading.{readingOf};
+ghost use Rattle.reading.specs.Reading.{readingOf, KeptBeyond};
 ghost use Rattle.locate.specs.Locate.{lent, LocateGives};
 ghost use Rattle.locate.specs.Promise.{Promise};
 ghost use Rattle.sample.specs.Sample.{SampleGives};
@@ -80,9 +80,7 @@ pub extern "C" fn folgutan_locate(
 #[no_mangle]
 pub extern "C" fn folgutan_read_line(list: &[u32], scratch: &mut [u32]) -> Line
     ensures reads { λ r. ⌜ r ≡ lineOf (readingOf (now (list .entry)) (length (now (scratch .entry)))) ⌝ }
-    ensures kept { λ _.
-        let n = 4 * length (now (list .entry)) in
-        ⌜ drop n (now (scratch .exit)) ≡ drop n (now (scratch .entry)) ⌝ }
+    ensures kept { λ _. ⌜ KeptBeyond (now (list .entry)) (now (scratch .entry)) (now (scratch .exit)) ⌝ }
 {
     let reading = reading::get_line(list, scratch);
     match reading {

@@ -11,7 +11,7 @@ ghost use Rattle.narrow.specs.Narrow as Narrow;
 ghost use Rattle.bounds.specs.Bounds.{boundsOf, BoundsIn};
 ghost use Rattle.bounds.specs.Bounds as BoundsSpec;
 ghost use Rattle.strips.specs.Strip.{placeCount, columnScores, rowScores};
-ghost use Rattle.strips.specs.States.{Scorable};
+ghost use Rattle.strips.specs.Parts.{Scorable};
 ghost use Rattle.sample.specs.Sample.{CellGives};
 ghost use Rattle.folgutan_inner.specs.Corners.{asBounds};
 ghost use mathlib.Core.Path.{_≡_};

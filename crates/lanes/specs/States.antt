@@ -1,4 +1,4 @@
--- For the contracts inside, and for callers that walk strips of their own: the lanes of a strip while it is walked down.
+-- For the code: the lanes of a strip while it is walked down.
 use Prim.Native.Nat.{ℕ, _+_, _*_, _≤_, _<_}
 use mathlib.Core.Bool.{Bool, not}
 use mathlib.Core.Path.{_≡_}
@@ -29,7 +29,7 @@ Below n cost = (j : ℕ) → j ≤ 4 → cost j < n
 abbrev pub unset : List ℕ → ℕ → ℕ
 unset e k = bit (not (eqb (getD e k 0) 1))
 
--- w is v with the points that the lanes leave from, whatever the costs: they start at o and lie `across` apart
+-- w is v with the point of the new row in each old lane, whatever the costs: the points start at o and lie `across` apart
 abbrev pub Pointed : List ℕ → ℕ → ℕ → Lanes → Lanes → Type 0
 Pointed e o across v w =
     (n : ℕ) (cost : ℕ → ℕ) → LanesHold n cost v → LanesHold (n + 1) (λ j. cost j + unset e (o + j * across)) w

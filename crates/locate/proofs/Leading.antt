@@ -13,12 +13,12 @@ use Rattle.bounds.proofs.Laws.{Wide}
 use Rattle.bounds.proofs.Laws as Laws
 use Rattle.narrowings.specs.declared.Narrowed.{Narrowed}
 use Rattle.strips.specs.Strip.{placeCount}
-use Rattle.strips.specs.States.{Scorable}
+use Rattle.strips.specs.Parts.{Scorable}
 use Rattle.strips.proofs.Scores.{count-most}
 use Rattle.axes.specs.Axes.{RoomFor}
 use Rattle.locate.specs.Steps.{Leads}
 
-module _ {h w : ℕ} {l : Narrowed} {edges : List ℕ} {scores bytes words : ℕ} (g : Leads h w l edges scores bytes words) where
+module _ {h w : ℕ} {l : Narrowed} {edges : List ℕ} {scores u8 u32 : ℕ} (g : Leads h w l edges scores u8 u32) where
   -- the first edge picture
   abbrev picture : List ℕ
   picture = take ((h - 2) * (w - 2)) edges
@@ -59,12 +59,12 @@ module _ {h w : ℕ} {l : Narrowed} {edges : List ℕ} {scores bytes words : ℕ
   rows-few : placeCount (widened .«r_1») (widened .«r_2») ≤ h
   rows-few = let e = wide-enough in omega (arith, count-most (widened .«r_1») (widened .«r_2») (e .rows), e .row-end, g .high-h)
 
-  pub room-for : RoomFor widened scores bytes words
+  pub room-for : RoomFor widened scores u8 u32
   room-for =
       let e = wide-enough in
       let a : widened .«c_2» - widened .«c_1» + 1 ≤ w = omega (arith, e .column-end, g .high-w) in
       record {
         scores-in = omega (arith, columns-few, rows-few, g .scores-in);
-        turned-in = omega (arith, mul-le-mul a rows-few, mul-comm w h, g .bytes-in);
-        words-in = omega (arith, columns-few, rows-few, g .words-in);
+        turned-in = omega (arith, mul-le-mul a rows-few, mul-comm w h, g .u8-in);
+        words-in = omega (arith, columns-few, rows-few, g .u32-in);
       }

@@ -10,7 +10,7 @@ use lib.ListN.{length}
 use Rattle.board.specs.Board.{leastSide}
 use Rattle.board.specs.Planes.{FitPlanes}
 use Rattle.bounds.proofs.Laws.{Wide, within, wide}
-use Rattle.narrowings.specs.Loop.{Stage, first, pictureIn, boundsIn, thin, lastOf}
+use Rattle.narrowings.specs.Loop.{Stage, first, pictureAt, boundsAt, thin, lastOf}
 use Rattle.narrowings.proofs.Turns.{by-three, Sound, spans, sound-around, last-sound}
 use Rattle.strips.specs.Strip.{columnScores, rowScores}
 use Rattle.locate.specs.Reference.{Reference, referenceOf}
@@ -36,7 +36,7 @@ module _ (h w : ℕ) (planes : List Float) where
     pub sound : Sound h w (length planes) l
     sound = last-sound 3 by-three h w planes f ends .0
 
-    pub not-thin : thin (l .height) (l .width) (boundsIn l) ≡ false
+    pub not-thin : thin (l .height) (l .width) (boundsAt l) ≡ false
     not-thin = last-sound 3 by-three h w planes f ends .1
 
     -- both spans of the widened bounds are at least 4, and they lie inside the last picture
@@ -44,8 +44,8 @@ module _ (h w : ℕ) (planes : List Float) where
     unfolding referenceOf
     wide-enough =
         let s = sound .fit .sides in
-        let n = spans (l .height) (l .width) (boundsIn l) not-thin in
-        wide (pictureIn (first h w planes)) (omega (arith, s .low-h)) (omega (arith, s .low-w)) (within (sound-around sound)) (n .0) (n .1)
+        let n = spans (l .height) (l .width) (boundsAt l) not-thin in
+        wide (pictureAt (first h w planes)) (omega (arith, s .low-h)) (omega (arith, s .low-w)) (within (sound-around sound)) (n .0) (n .1)
 
     pub scored : Scored (referenceOf h w planes)
     unfolding referenceOf

@@ -17,7 +17,7 @@ module _ (a : Axis) (is : a .scores ≡ scores (a .picture) (a .from) (a .to) (a
   pub unbeaten : (entry : ℕ → ℕ) (q offset count voted : ℕ) → InLimits (a .scores)
       → ((i : ℕ) → i < length (places (a .low) (a .high)) → entry i ≡ getD (a .scores) i 0)
       → quartersOf (a .scores) ≡ Read q offset count voted
-      → Unbeaten a (record { score = entry; offset = offset; quarters = q; votes = voted; pitch = pitchOf q })
+      → Unbeaten a (record { score = entry; offset = offset; quarter = q; votes = voted; pitch = pitchOf q })
   unbeaten entry q offset count voted fit same e =
       record {
         bounded = λ i l walk w. rw (here i l) (no-better (a .picture) (a .from) (a .to) (placeAt a i) walk w);

@@ -16,7 +16,7 @@ use Rattle.edges.specs.Edges.{edges}
 use Rattle.edges.proofs.Laws.{edge-le}
 use Rattle.bounds.proofs.Laws as Bounds
 use Rattle.narrowings.specs.declared.Narrowed.{Narrowed}
-use Rattle.narrowings.specs.Loop.{first, boundsIn, Last, lastOf}
+use Rattle.narrowings.specs.Loop.{first, boundsAt, Last, lastOf}
 use Rattle.narrowings.specs.Steps.{Looks, Narrows}
 use Rattle.narrowings.proofs.Looking.{edges-in, edges-part}
 use Rattle.narrowings.proofs.Turns.{spans, sound-around}
@@ -76,7 +76,7 @@ module _ (b : Board) (before : Lent) (f : FitPlanes leastSide (b .height) (b .wi
     leads =
         let s = sound h w (before .planes) f large in
         let a = sound-around s in
-        let n = spans (last .stage .height) (last .stage .width) (boundsIn (last .stage)) (not-thin h w (before .planes) f large) in
+        let n = spans (last .stage .height) (last .stage .width) (boundsAt (last .stage)) (not-thin h w (before .planes) f large) in
         let h-is = narrows .height-is in
         let w-is = narrows .width-is in
         let b-is = narrows .bounds-are ok in
@@ -93,8 +93,8 @@ module _ (b : Board) (before : Lent) (f : FitPlanes leastSide (b .height) (b .wi
           there = edges-in h w (before .planes) (looks .bytes-are);
           marks = λ k. rw picture-is (edge-le h w (before .planes) k);
           scores-in = room .scores-in;
-          bytes-in = room .u8-in;
-          words-in = room .u32-in;
+          u8-in = room .u8-in;
+          u32-in = room .u32-in;
         }
 
     pub works-read : {r : Located} {scores' : List ℕ} (f32 : List Float) (u8 u32 : List ℕ)

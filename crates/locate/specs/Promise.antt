@@ -22,14 +22,14 @@ use Rattle.locate.specs.Locate.{Lent, checked, found, referenceFor}
 pub record Handed : Type 0 where
   pub score : ℕ → ℕ
   pub offset : ℕ
-  pub quarters : ℕ
+  pub quarter : ℕ
   pub votes : ℕ
   pub pitch : Float
 
 -- column scores stand at the front of the score slice
 abbrev pub columnsHanded : Located → List ℕ → Handed
 columnsHanded r scores =
-    record { score = λ i. getD scores i 0; offset = r .board .c0; quarters = r .quarterc; votes = r .votesc; pitch = r .board .pixelc }
+    record { score = λ i. getD scores i 0; offset = r .board .c0; quarter = r .quarterc; votes = r .votesc; pitch = r .board .pixelc }
 
 -- row scores stand behind so many column scores
 abbrev pub rowsHanded : ℕ → Located → List ℕ → Handed
@@ -37,7 +37,7 @@ rowsHanded n r scores =
     record {
       score = λ i. getD scores (n + i) 0;
       offset = r .board .r0;
-      quarters = r .quarterr;
+      quarter = r .quarterr;
       votes = r .votesr;
       pitch = r .board .pixelr;
     }
@@ -58,8 +58,8 @@ pub record Unbeaten (a : Axis) (x : Handed) : Type 0 where
   -- the offset and q lie in the searched range of the list's lines and get exactly the votes handed back. Every other pair of the
   -- range gets at most as many, and one with as many has a larger offset, or the same offset and a larger q.
   pub wins : Wins (remaining (a .scores)) (estimate (linesOf (a .scores)))
-      (record { votes = x .votes; offset = x .offset; quarter = x .quarters })
-  pub pitch-is : x .pitch ≡ pitchOf (x .quarters)
+      (record { votes = x .votes; offset = x .offset; quarter = x .quarter })
+  pub pitch-is : x .pitch ≡ pitchOf (x .quarter)
 
 -- the count of an accepted reading
 abbrev pub countIn : Quarters → ℕ

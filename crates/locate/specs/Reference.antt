@@ -6,7 +6,7 @@ use lib.Ieee.{Float}
 use Rattle.lists.specs.Picture.{flip}
 use Rattle.board.specs.declared.Bounds.{Bounds}
 use Rattle.bounds.specs.Bounds.{widen}
-use Rattle.narrowings.specs.Loop.{Last, first, edgesIn, pictureIn, boundsIn, lastOf}
+use Rattle.narrowings.specs.Loop.{Last, first, edgesAt, pictureAt, boundsAt, lastOf}
 use Rattle.strips.specs.Strip.{columnScores, rowScores}
 
 pub record Reference : Type 0 where
@@ -28,14 +28,14 @@ referenceOf h w planes =
     let last = lastOf 3 h w planes in
     let scored = first h w planes in
     let l = last .stage in
-    let b = widen (pictureIn scored) (l .height - 2) (l .width - 2) (boundsIn l) in
+    let b = widen (pictureAt scored) (l .height - 2) (l .width - 2) (boundsAt l) in
     record {
       last = last;
-      edges = edgesIn scored;
-      picture = pictureIn scored;
+      edges = edgesAt scored;
+      picture = pictureAt scored;
       bounds = b;
-      columns = columnScores (pictureIn scored) b;
-      rows = rowScores (pictureIn scored) b;
+      columns = columnScores (pictureAt scored) b;
+      rows = rowScores (pictureAt scored) b;
     }
 
 -- one axis: the strips of a picture over the rows `from` to `to`, at the columns `low` to `high`, and their scores

@@ -16,7 +16,7 @@ use Rattle.reading.specs.Reading.{quartersOf}
 use Rattle.locate.specs.declared.Located.{Located}
 use Rattle.locate.specs.Locate.{Lent, joined, found, scoresOf, referenceFor}
 
--- no slice but the planes is short
+-- every slice beside the planes is long enough
 pub record NoneShort (h w : ℕ) (s : Lent) : Type 0 where
   pub edges-in : h * w ≤ length (s .edges)
   pub scores-in : h + w ≤ length (s .scores)
@@ -25,7 +25,7 @@ pub record NoneShort (h w : ℕ) (s : Lent) : Type 0 where
   pub u32-in : 4 * (h + w) ≤ length (s .scratch-u32)
 
 -- where the loop ended well: the last picture lies in the first one, its bounds are not thin, and there is room for the rest
-pub record Leads (h w : ℕ) (l : Narrowed) (edges : List ℕ) (scores bytes words : ℕ) : Type 0 where
+pub record Leads (h w : ℕ) (l : Narrowed) (edges : List ℕ) (scores u8 u32 : ℕ) : Type 0 where
   pub high : h ≤ 4096
   pub wide : w ≤ 4096
   pub low-h : 12 ≤ l .height
@@ -38,8 +38,8 @@ pub record Leads (h w : ℕ) (l : Narrowed) (edges : List ℕ) (scores bytes wor
   pub there : (h - 2) * (w - 2) ≤ length edges
   pub marks : (k : ℕ) → getD (take ((h - 2) * (w - 2)) edges) k 0 ≤ 1
   pub scores-in : h + w ≤ scores
-  pub bytes-in : h * w ≤ bytes
-  pub words-in : 4 * (h + w) ≤ words
+  pub u8-in : h * w ≤ u8
+  pub u32-in : 4 * (h + w) ≤ u32
 
 -- the scores of the picture E over the bounds, and what their readings make of the record
 pub record ReadsOn (E : ℕ → ℕ → Bool) (b : Board) (narrowed : ℕ) (bounds : Bounds) (before : List ℕ) (r : Located) (after : List ℕ)

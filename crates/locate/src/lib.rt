@@ -226,7 +226,7 @@ fn read_from(
 }
 
 // The work, once the checks passed.
-pub fn work(
+fn work(
     b: Board,
     planes: &mut [f32],
     edges: &mut [u8],
@@ -247,8 +247,8 @@ pub fn work(
 {
     let height = b.height;
     let width = b.width;
-    let first = narrowings::look(height, width, planes, scratch_f32, edges);
-    let l = narrowings::narrow_on(height, width, first, planes, scratch_f32, scratch_u8);
+    let start = narrowings::look(height, width, planes, scratch_f32, edges);
+    let l = narrowings::narrow_on(height, width, start, planes, scratch_f32, scratch_u8);
     if l.small {
         return declined(b.resized(l.height, l.width), 5, l.narrowed);
     }

@@ -1,6 +1,6 @@
 // Narrowing (01, "Narrowing"): each plane point becomes the fifth smallest of its 3 by 3 block. Definitions: specs/Narrow, over the factor;
-// specs/Three is for the inner functions. Laws for callers: proofs/Laws. It asks for units, whose order is that of their bits, so that it
-// can pick by comparison.
+// specs/Three is for the inner functions. Laws for callers: proofs/Laws. It asks for planes that are fit, of any sides up to the
+// largest: the order of units is that of their bits, so that it can pick by comparison.
 ghost use mathlib.Core.Path.{_≡_};
 ghost use mathlib.Core.Bool.{true};
 ghost use mathlib.Core.List.{[], _∷_};

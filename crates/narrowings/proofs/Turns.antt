@@ -18,7 +18,7 @@ use Rattle.board.proofs.Sides.{neither}
 use Rattle.narrow.specs.Narrow.{narrow}
 use Rattle.narrow.proofs.Laws.{smaller, narrow-length, narrow-fit}
 use Rattle.bounds.proofs.Laws.{Around, around}
-use Rattle.narrowings.specs.Loop.{Stage, stage, first, pictureIn, boundsIn, thin, small, next, Last, turn, looped, lastOf}
+use Rattle.narrowings.specs.Loop.{Stage, staged, first, pictureAt, boundsAt, thin, small, next, Last, oneTurn, looped, lastOf}
 use Rattle.narrowings.specs.Steps.{Narrows}
 
 -- a picture that is not small
@@ -47,12 +47,12 @@ pub sound-first : {h w : ℕ} {planes : List Float} → FitPlanes leastSide h w 
 sound-first f = record { fit = f; high-h = omega arith; high-w = omega arith; area = omega arith; long-is = refl }
 
 -- the bounds of such a screen lie around its middle
-pub sound-around : {h w long : ℕ} {s : Stage} → Sound h w long s → Around (s .height - 2) (s .width - 2) (boundsIn s)
-sound-around {s = s} p = around (pictureIn s) (omega (arith, p .fit .sides .low-h)) (omega (arith, p .fit .sides .low-w))
+pub sound-around : {h w long : ℕ} {s : Stage} → Sound h w long s → Around (s .height - 2) (s .width - 2) (boundsAt s)
+sound-around {s = s} p = around (pictureAt s) (omega (arith, p .fit .sides .low-h)) (omega (arith, p .fit .sides .low-w))
 
 -- they are in order
 pub ordered : {h w long : ℕ} {s : Stage} → Sound h w long s
-    → (boundsIn s .«r_1» ≤ boundsIn s .«r_2») × (boundsIn s .«c_1» ≤ boundsIn s .«c_2»)
+    → (boundsAt s .«r_1» ≤ boundsAt s .«r_2») × (boundsAt s .«c_1» ≤ boundsAt s .«c_2»)
 ordered p = let a = sound-around p in (omega (arith, a .rows .low, a .rows .high), omega (arith, a .columns .low, a .columns .high))
 
 -- the factor of the code
@@ -76,20 +76,20 @@ module _ (f : ℕ) (two : 2 ≤ f) where
   pub ends-well : (P : Stage → Type 0) → ((s : Stage) → P s → small (s .height / f) (s .width / f) ≡ false → P (next f s))
       → (turns : ℕ) (s : Stage) → P s → looped f turns s .tooSmall ≡ false
       → P (looped f turns s .stage)
-      × (thin (looped f turns s .stage .height) (looped f turns s .stage .width) (boundsIn (looped f turns s .stage)) ≡ false)
+      × (thin (looped f turns s .stage .height) (looped f turns s .stage .width) (boundsAt (looped f turns s .stage)) ≡ false)
   ends-well P pass zero s p e = absurd (true≢false e)
   ends-well P pass (suc turns) s p e =
-      go (thin (s .height) (s .width) (boundsIn s)) refl (small (s .height / f) (s .width / f)) refl (ends-well P pass turns (next f s)) e
+      go (thin (s .height) (s .width) (boundsAt s)) refl (small (s .height / f) (s .width / f)) refl (ends-well P pass turns (next f s)) e
     where
       Ends : Last → Type 0
-      Ends l = P (l .stage) × (thin (l .stage .height) (l .stage .width) (boundsIn (l .stage)) ≡ false)
+      Ends l = P (l .stage) × (thin (l .stage .height) (l .stage .width) (boundsAt (l .stage)) ≡ false)
 
       ended : Bool → Bool → Last
       ended a b =
           cond a (cond b (record { stage = next f s; tooSmall = true }) (looped f turns (next f s)))
           (record { stage = s; tooSmall = false })
 
-      go : (a : Bool) → thin (s .height) (s .width) (boundsIn s) ≡ a → (b : Bool) → small (s .height / f) (s .width / f) ≡ b
+      go : (a : Bool) → thin (s .height) (s .width) (boundsAt s) ≡ a → (b : Bool) → small (s .height / f) (s .width / f) ≡ b
           → (P (next f s) → looped f turns (next f s) .tooSmall ≡ false → Ends (looped f turns (next f s)))
           → ended a b .tooSmall ≡ false → Ends (ended a b)
       go false q b r ih z = (p, q)
@@ -99,7 +99,7 @@ module _ (f : ℕ) (two : 2 ≤ f) where
   -- where the loop ends well, the last screen is sound and not thin
   pub last-sound : (h w : ℕ) (planes : List Float) → FitPlanes leastSide h w planes → lastOf f h w planes .tooSmall ≡ false
       → Sound h w (length planes) (lastOf f h w planes .stage)
-      × (thin (lastOf f h w planes .stage .height) (lastOf f h w planes .stage .width) (boundsIn (lastOf f h w planes .stage)) ≡ false)
+      × (thin (lastOf f h w planes .stage .height) (lastOf f h w planes .stage .width) (boundsAt (lastOf f h w planes .stage)) ≡ false)
   unfolding lastOf
   last-sound h w planes p e = ends-well (Sound h w (length planes)) (λ s q r. sound-next q r) h (first h w planes) (sound-first p) e
 
@@ -124,17 +124,17 @@ module _ (f : ℕ) (two : 2 ≤ f) where
         go (suc k) l = (k, refl)
 
     -- one turn of the definition
-    here : lastOf f h w start ≡ turn f (looped f (some .0)) s
+    here : lastOf f h w start ≡ oneTurn f (looped f (some .0)) s
     here = rw (some .1) at (g .same)
 
-    pub going-end : thin (s .height) (s .width) (boundsIn s) ≡ false → lastOf f h w start ≡ record { stage = s; tooSmall = false }
+    pub going-end : thin (s .height) (s .width) (boundsAt s) ≡ false → lastOf f h w start ≡ record { stage = s; tooSmall = false }
     going-end p = rw p at here
 
-    pub going-small : thin (s .height) (s .width) (boundsIn s) ≡ true → small (s .height / f) (s .width / f) ≡ true
+    pub going-small : thin (s .height) (s .width) (boundsAt s) ≡ true → small (s .height / f) (s .width / f) ≡ true
         → lastOf f h w start ≡ record { stage = next f s; tooSmall = true }
     going-small p q = rw (p, q) at here
 
-    pub going-on : thin (s .height) (s .width) (boundsIn s) ≡ true → small (s .height / f) (s .width / f) ≡ false
+    pub going-on : thin (s .height) (s .width) (boundsAt s) ≡ true → small (s .height / f) (s .width / f) ≡ false
         → Going h w start (next f s)
     going-on p q =
         record {
@@ -148,14 +148,14 @@ module _ (f : ℕ) (two : 2 ≤ f) where
         }
 
     -- what the code hands back on each way out
-    pub narrows-end : {b : Bounds} → b ≡ boundsIn s → thin (s .height) (s .width) b ≡ false
+    pub narrows-end : {b : Bounds} → b ≡ boundsAt s → thin (s .height) (s .width) b ≡ false
         → Narrows (lastOf f h w start)
         (record { height = s .height; width = s .width; narrowed = s .narrowed; small = false; bounds = b }) (s .planes)
     narrows-end e p =
         let q = going-end (rw e at p) in
         record { height-is = rw q; width-is = rw q; narrowed-is = rw q; small-is = rw q; planes-are = rw q; bounds-are = λ z. rw q e }
 
-    pub narrows-small : {b : Bounds} {after : List Float} → thin (s .height) (s .width) (boundsIn s) ≡ true
+    pub narrows-small : {b : Bounds} {after : List Float} → thin (s .height) (s .width) (boundsAt s) ≡ true
         → small (s .height / f) (s .width / f) ≡ true
         → after ≡ narrow f (s .height) (s .width) (s .planes)
         → Narrows (lastOf f h w start)

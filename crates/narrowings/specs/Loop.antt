@@ -17,22 +17,22 @@ pub record Stage : Type 0 where
   pub planes : List Float
   pub narrowed : ℕ
 
-abbrev pub stage : ℕ → ℕ → List Float → ℕ → Stage
-stage h w planes n = record { height = h; width = w; planes = planes; narrowed = n }
+abbrev pub staged : ℕ → ℕ → List Float → ℕ → Stage
+staged h w planes n = record { height = h; width = w; planes = planes; narrowed = n }
 
--- the screen as it is handed in
+-- a screen that was not narrowed yet
 abbrev pub first : ℕ → ℕ → List Float → Stage
-first h w planes = stage h w planes 0
+first h w planes = staged h w planes 0
 
 -- its edge picture, as bytes and as a picture, and the bounds of that
-abbrev pub edgesIn : Stage → List ℕ
-edgesIn s = edges (s .height) (s .width) (s .planes)
+abbrev pub edgesAt : Stage → List ℕ
+edgesAt s = edges (s .height) (s .width) (s .planes)
 
-abbrev pub pictureIn : Stage → ℕ → ℕ → Bool
-pictureIn s = points (s .width - 2) 1 (edgesIn s)
+abbrev pub pictureAt : Stage → ℕ → ℕ → Bool
+pictureAt s = points (s .width - 2) 1 (edgesAt s)
 
-abbrev pub boundsIn : Stage → Bounds
-boundsIn s = boundsOf (pictureIn s) (s .height - 2) (s .width - 2)
+abbrev pub boundsAt : Stage → Bounds
+boundsAt s = boundsOf (pictureAt s) (s .height - 2) (s .width - 2)
 
 -- a span of the bounds is at most a third of row or column
 unfoldable pub thin : ℕ → ℕ → Bounds → Bool
@@ -44,24 +44,24 @@ small h w = leb (h - 2) 64 || leb (w - 2) 64
 
 -- one narrowing
 abbrev pub next : ℕ → Stage → Stage
-next f s = stage (s .height / f) (s .width / f) (narrow f (s .height) (s .width) (s .planes)) (s .narrowed + 1)
+next f s = staged (s .height / f) (s .width / f) (narrow f (s .height) (s .width) (s .planes)) (s .narrowed + 1)
 
 -- where the loop ends, and whether the screen got too small there
 pub record Last : Type 0 where
-  pub stage : Stage
+  pub staged : Stage
   pub tooSmall : Bool
 
 -- one turn: a screen that is not thin is the last one; else it is narrowed, and then it is too small, or the loop goes on
-abbrev pub turn : ℕ → (Stage → Last) → Stage → Last
-turn f on s =
-    cond (thin (s .height) (s .width) (boundsIn s))
+abbrev pub oneTurn : ℕ → (Stage → Last) → Stage → Last
+oneTurn f on s =
+    cond (thin (s .height) (s .width) (boundsAt s))
     (cond (small (s .height / f) (s .width / f)) (record { stage = next f s; tooSmall = true }) (on (next f s)))
     (record { stage = s; tooSmall = false })
 
--- the loop. A narrowing lowers the height, so as many turns as it has rows are enough, and the case without a turn is never met.
+-- the loop. A narrowing by 2 or more lowers the height, so as many turns as it has rows are enough: the case without a turn is not met.
 abbrev pub looped : ℕ → ℕ → Stage → Last
 looped f zero s = record { stage = s; tooSmall = true }
-looped f (suc turns) s = turn f (looped f turns) s
+looped f (suc turns) s = oneTurn f (looped f turns) s
 
 unfoldable pub lastOf : ℕ → ℕ → ℕ → List Float → Last
 unfolding thin small

@@ -7,12 +7,12 @@ use lib.Ieee.{Float}
 use Rattle.lists.specs.Front.{AtFront}
 use Rattle.board.specs.declared.Bounds.{Bounds}
 use Rattle.narrowings.specs.declared.Narrowed.{Narrowed}
-use Rattle.narrowings.specs.Loop.{Stage, edgesIn, boundsIn, Last}
+use Rattle.narrowings.specs.Loop.{Stage, edgesAt, boundsAt, Last}
 
 -- the bounds of a screen's edge picture, which stands at the front of the bytes
 pub record Looks (s : Stage) (before : List ℕ) (b : Bounds) (after : List ℕ) : Type 0 where
-  pub bounds-are : b ≡ boundsIn s
-  pub bytes-are : AtFront (edgesIn s) before after
+  pub bounds-are : b ≡ boundsAt s
+  pub bytes-are : AtFront (edgesAt s) before after
 
 -- where the loop ends, with the bounds of that picture unless it got too small
 pub record Narrows (last : Last) (r : Narrowed) (after : List Float) : Type 0 where
@@ -21,4 +21,4 @@ pub record Narrows (last : Last) (r : Narrowed) (after : List Float) : Type 0 wh
   pub narrowed-is : r .narrowed ≡ last .stage .narrowed
   pub small-is : r .small ≡ last .tooSmall
   pub planes-are : after ≡ last .stage .planes
-  pub bounds-are : r .small ≡ false → r .bounds ≡ boundsIn (last .stage)
+  pub bounds-are : r .small ≡ false → r .bounds ≡ boundsAt (last .stage)

@@ -7,7 +7,7 @@ ghost use lib.ListN.{length};
 ghost use Rattle.board.specs.Board.{leastPlaneSide, leastSide};
 ghost use Rattle.board.specs.Planes.{FitPlanes};
 ghost use Rattle.narrowings.specs.Loop as Spec;
-ghost use Rattle.narrowings.specs.Loop.{first, boundsIn, lastOf};
+ghost use Rattle.narrowings.specs.Loop.{first, boundsAt, lastOf};
 ghost use Rattle.narrowings.specs.Steps.{Looks, Narrows};
 use board::Bounds;
 
@@ -75,7 +75,7 @@ pub fn narrow_on(
     scratch_f32: &mut [f32],
     scratch_u8: &mut [u8],
 ) -> Narrowed
-    requires { ⌜ FitPlanes leastSide height width (now planes) × (start ≡ boundsIn (first height width (now planes))) ⌝ }
+    requires { ⌜ FitPlanes leastSide height width (now planes) × (start ≡ boundsAt (first height width (now planes))) ⌝ }
     requires { ⌜ (height * width ≤ length (now «scratch_f32»)) × (height * width ≤ length (now «scratch_u8»)) ⌝ }
     ensures { λ r. ⌜ Narrows (lastOf 3 height width (now (planes .entry))) r (now (planes .exit)) ⌝ }
 {

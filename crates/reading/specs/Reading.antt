@@ -28,7 +28,7 @@ pitchOf q = div binary32 (float q) (ofBits binary32 0x40800000)
 abbrev pub countOf : List ℕ → ℕ → ℕ
 countOf lines q = trunc (div binary32 (float (getD lines (length lines - 1) 0 - getD lines 0 0 + 2)) (pitchOf q))
 
--- what the lines that remain read as, with their e
+-- what lines read as, with e
 abbrev pub accepted : ℕ → List ℕ → Quarters
 accepted e lines = let w = winner e lines in In.Read (w .quarter) (w .offset) (countOf lines (w .quarter)) (w .votes)
 
@@ -77,7 +77,7 @@ pub record Readable (e : ℕ) (lines : List ℕ) (room : ℕ) : Type 0 where
   pub rising : getD lines 0 0 ≤ getD lines (length lines - 1) 0
   pub row : getD lines 0 0 + 8 ≤ room
 
--- the lines that remain of s stand in the array from `from` up to `end`, e is theirs, and a row as long as four times s
+-- the lines that remain of s stand in the array from `from` up to `end`, e is that of all lines, and a row as long as four times s
 -- is enough to search them
 pub record Standing (s array : List ℕ) (from end e : ℕ) : Type 0 where
   pub answer : gapAnswer (linesOf s) ≡ 0

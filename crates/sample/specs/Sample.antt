@@ -55,7 +55,7 @@ numbersAbove x y r₁ c₁ r₀ c₀ size =
     ltb mostNumber x || ltb mostNumber y || ltb mostNumber r₁ || ltb mostNumber c₁ || ltb mostNumber r₀ || ltb mostNumber c₀
     || ltb mostSize size
 
--- the answer where the planes are fit, for `room` entries of output
+-- the answer where the checks of the planes passed, for `room` entries of output
 unfoldable pub cellAnswer : Board → ℕ → ℕ → ℕ → ℕ → ℕ
 unfolding pitchOutside numbersAbove sampledAt
 cellAnswer b x y size room =
@@ -77,7 +77,7 @@ pub record SampleGives (b : Board) (planes : List Float) (x y size : ℕ) (befor
   pub answer-is : answer ≡ sampleAnswer b planes x y size (length before)
   pub out-is : AtFront (cond (eqb answer 0) (cell b planes x y size) []) before after
 
--- the same where the planes are fit
+-- the same without the checks of the planes
 pub record CellGives (b : Board) (planes : List Float) (x y size : ℕ) (before : List Float) (answer : ℕ) (after : List Float)
     : Type 0 where
   pub answer-is : answer ≡ cellAnswer b x y size (length before)

@@ -16,7 +16,7 @@ use Rattle.lists.proofs.Front.{front-by}
 use Rattle.lanes.specs.Score.{Place, at, score}
 use Rattle.strips.specs.Strip.{places, placeCount, scores}
 use Rattle.lanes.specs.Sweep.{sweptScores}
-use Rattle.strips.specs.States.{bordered}
+use Rattle.strips.specs.Parts.{bordered}
 
 -- ---- how many
 

@@ -14,7 +14,7 @@ use Rattle.lists.proofs.Grid.{row-column}
 use Rattle.lists.specs.Picture.{points}
 use Rattle.lanes.specs.Score.{at, onStrip, score}
 use Rattle.lanes.specs.States.{Marks}
-use Rattle.strips.specs.States.{Copied, Turned}
+use Rattle.strips.specs.Parts.{Copied, Turned}
 use Rattle.lanes.proofs.Walks.{least-cost-same}
 
 -- a place in rows of b is in one row, at one column

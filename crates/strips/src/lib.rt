@@ -9,7 +9,7 @@ ghost use Rattle.lists.specs.Picture.{points};
 ghost use Rattle.lanes.specs.States.{Marks};
 ghost use Rattle.lanes.specs.Sweep.{sweptScores};
 ghost use Rattle.strips.specs.Strip.{placeCount, columnScores, rowScores};
-ghost use Rattle.strips.specs.States.{Scorable, twoScores, bordered, Copied, Turned};
+ghost use Rattle.strips.specs.Parts.{Scorable, twoScores, bordered, Copied, Turned};
 
 // Target lanes k and k + 1 of one strip, on either axis, into entries i and i + 1.
 fn two_scores(

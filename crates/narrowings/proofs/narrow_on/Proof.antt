@@ -7,7 +7,7 @@ use denote.Ref.{now}
 use lib.ListN.{length}
 use Rattle.board.specs.Board.{leastPlaneSide}
 use Rattle.board.proofs.Planes.{fit-lower}
-use Rattle.narrowings.specs.Loop.{Stage, stage, boundsIn, thin, small}
+use Rattle.narrowings.specs.Loop.{Stage, staged, boundsAt, thin, small}
 use Rattle.narrowings.proofs.Turns.{by-three, Going, Sound, going-first, going-on, sound-next, ordered, narrows-end, narrows-small}
 use borrow.Author.Needs.{needs}
 use Rattle.narrowings.proofs.narrow_on.Statement.{statement}
@@ -15,8 +15,8 @@ use Rattle.narrowings.proofs.narrow_on.Tie as tie
 
 abbrev Inv-loop : tie.InvT-loop
 Inv-loop height width planes₀ f32₀ u8₀ h₀ w₀ b₀ n₀ planes f32 u8 h w b n =
-    Going 3 by-three height width planes₀ (stage h w planes n)
-    × (b ≡ boundsIn (stage h w planes n))
+    Going 3 by-three height width planes₀ (staged h w planes n)
+    × (b ≡ boundsAt (staged h w planes n))
     × (length f32 ≡ length f32₀)
     × (length u8 ≡ length u8₀)
 
@@ -38,13 +38,13 @@ abbrev begun : tie.After-narrow Inv-loop μ-loop → tie.Start Inv-loop μ-loop
 begun c = at-start (at-loop c)
 
 abbrev here : tie.After-narrow Inv-loop μ-loop → Stage
-here c = let at = at-loop c .loop in stage (at .h) (at .w) (at .planes) (at .n)
+here c = let at = at-loop c .loop in staged (at .h) (at .w) (at .planes) (at .n)
 
 sound : (c : tie.After-narrow Inv-loop μ-loop) → let a = begun c .args in
     Sound (a .height) (a .width) (length (now (a .planes))) (here c)
 sound c = at-loop c .loop .inv .0 .sound
 
-is-thin : (c : tie.After-narrow Inv-loop μ-loop) → thin (here c .height) (here c .width) (boundsIn (here c)) ≡ true
+is-thin : (c : tie.After-narrow Inv-loop μ-loop) → thin (here c .height) (here c .width) (boundsAt (here c)) ≡ true
 is-thin c =
     let test = c .before .before .before in
     rw (at-loop c .loop .inv .1) at (sym (test .before .thin .ensures) ∙ test .if1 .taken)
