@@ -1,8 +1,7 @@
 // The C interface: include/folgutan.h documents it. Each function carries the contract of the one that it wraps; a reading
 // crosses as a struct (specs/Line). It asks nothing of its caller beyond valid slices that do not overlap.
 ghost use mathlib.Core.Path.{_≡_};
-ghost use Prim.Native.Nat.{_*_};
-ghost use lib.ListN.{length, drop};
+ghost use lib.ListN.{length};
 ghost use Rattle.load.specs.Load.{mostByte, LoadGives};
 ghost use Rattle.gradient.specs.Gradient.{GradientGives};
 ghost use Rattle.reading.specs.Reading.{readingOf, KeptBeyond};

@@ -48,7 +48,7 @@ next f s = staged (s .height / f) (s .width / f) (narrow f (s .height) (s .width
 
 -- where the loop ends, and whether the screen got too small there
 pub record Last : Type 0 where
-  pub staged : Stage
+  pub stage : Stage
   pub tooSmall : Bool
 
 -- one turn: a screen that is not thin is the last one; else it is narrowed, and then it is too small, or the loop goes on
