@@ -32,7 +32,7 @@ pub record SidesIn (least h w : ℕ) : Type 0 where
   pub high-w : w ≤ mostSide
   pub area : h * w ≤ mostSide * mostSide
 
--- the planes are there, and each of their values is a unit
+-- such sides, planes that are there, and each of their values a unit
 pub record FitPlanes (least h w : ℕ) (planes : List Float) : Type 0 where
   pub sides : SidesIn least h w
   pub there : 3 * (h * w) ≤ length planes

@@ -9,7 +9,7 @@ use native.Mathlib.Omega.{arith}
 use lib.Dec.{ltb}
 use lib.ListN.{length, getD, drop, length-append}
 use lib.Seq.{drop-cons}
-use borrow.Author.Tests.{lt-ltb, le-ltb, ltb-false}
+use borrow.Author.Tests.{lt-ltb, le-ltb}
 use Rattle.text.specs.Text.{digitsOf, decimal, following, numbersLine}
 
 -- a tenth has a digit less
@@ -32,20 +32,6 @@ decimal-more n l h = rw (le-ltb n 10 l, digits-same 18 (n / 10) (omega arith))
 one-more : (t : Bool) (d : ℕ) (l : List ℕ) {most : ℕ} → (t ≡ false → length l ≤ most) → length (cond t [] l ++ (d ∷ [])) ≤ suc most
 one-more true d l h = omega arith
 one-more false d l h = simp length-append (omega (arith, h refl))
-
-digits-few : (most k n : ℕ) → n < 10 ^ suc k → length (digitsOf most n) ≤ suc k
-digits-few zero k n h = omega arith
-digits-few (suc most) zero n h = one-more (ltb n 10) (48 + n % 10) (digitsOf most (n / 10)) (λ e. absurd (no-test e))
-  where
-    no-test : ltb n 10 ≡ false → ⊥
-    no-test e = omega (arith, ltb-false n 10 e, h)
-digits-few (suc most) (suc k) n h =
-    one-more (ltb n 10) (48 + n % 10) (digitsOf most (n / 10)) (λ _. digits-few most k (n / 10) (tenth (suc k) n h))
-
--- a number below 10 to the power k + 1 has at most k + 1 digits
-pub decimal-few : (k n : ℕ) → n < 10 ^ suc k → length (decimal n) ≤ suc k
-unfolding decimal
-decimal-few k n h = digits-few 20 k n h
 
 digits-most : (most n : ℕ) → length (digitsOf most n) ≤ most
 digits-most zero n = le-refl 0
