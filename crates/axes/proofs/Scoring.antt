@@ -9,17 +9,17 @@ use lib.Seq.{take-at, drop-at}
 use Rattle.lists.specs.Front.{AtFront}
 use Rattle.lists.specs.Picture.{flip}
 use Rattle.board.specs.declared.Bounds.{Bounds}
-use Rattle.strips.specs.Strip.{placeCount, scores, columnScores, rowScores}
-use Rattle.strips.specs.Parts.{Scorable}
+use Rattle.strips.specs.Strip.{scores, columnScores, rowScores}
+use Rattle.strips.specs.Inner.{placeCount, Scorable}
 use Rattle.strips.proofs.Scores.{length-scores, scores-most, count-least, count-most}
-use Rattle.lines.specs.Lines.{InLimits}
+use Rattle.lines.specs.Inner.{InLimits}
 use Rattle.lines.proofs.Windows.{largest-le}
 use Rattle.votes.specs.Votes.{winner}
 use Rattle.votes.proofs.Row.{votes-few}
 use Rattle.lines.specs.Lines.{linesOf, estimate}
 use Rattle.reading.specs.Reading.{remaining, quartersOf}
 use Rattle.reading.proofs.Laws.{by-outcome, readable-wins}
-use Rattle.axes.specs.Axes.{Fits32}
+use Rattle.axes.specs.Inner.{Fits32}
 
 -- a score list can be read
 pub scores-fit : (E : ℕ → ℕ → Bool) (from to c₁ c₂ : ℕ) → c₁ + 4 ≤ c₂ → c₂ ≤ 4095 → to ≤ 4096 → InLimits (scores E from to c₁ c₂)

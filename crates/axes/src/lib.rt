@@ -1,14 +1,14 @@
 // Both axes of an edge picture over some bounds: column scores, then row scores, in one slice (01, "Path scores"), and
 // what each list reads as (01, "Lines and votes"). Definitions: strips' columnScores and rowScores, reading's
-// quartersOf; specs/Axes is for the code. Laws for callers: proofs/Scoring.
+// quartersOf; specs/Inner is for the code. Laws for callers: proofs/Scoring.
 ghost use mathlib.Core.List.{_++_};
 ghost use Prim.Native.Nat.{_+_, _-_, _*_, _≤_};
 ghost use lib.ListN.{length};
 ghost use Rattle.lists.specs.Front.{AtFront};
 ghost use Rattle.lists.specs.Picture.{points};
-ghost use Rattle.strips.specs.Strip.{placeCount, columnScores, rowScores};
-ghost use Rattle.strips.specs.Parts.{Scorable};
-ghost use Rattle.axes.specs.Axes.{bothCounts, RoomFor, ReadsAxes};
+ghost use Rattle.strips.specs.Strip.{columnScores, rowScores};
+ghost use Rattle.strips.specs.Inner.{placeCount, Scorable};
+ghost use Rattle.axes.specs.Inner.{bothCounts, RoomFor, ReadsAxes};
 use board::Bounds;
 use reading::Quarters;
 

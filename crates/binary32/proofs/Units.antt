@@ -7,7 +7,8 @@ use native.Mathlib.Omega.{arith}
 use borrow.Author.Tests.{leb-true, ltb-true, ltb-false}
 use lib.Dec.{T, ltb}
 use lib.Ieee.{Float, binary32, lt, fits, toBits}
-use Rattle.binary32.specs.Binary32.{unit, larger, lesser}
+use Rattle.binary32.specs.Binary32.{unit, larger}
+use Rattle.binary32.specs.Inner.{lesser}
 use Rattle.binary32.proofs.Plain.{Plain, bits-plain, plain-below}
 
 -- a value of the format that is a unit

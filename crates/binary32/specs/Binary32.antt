@@ -24,10 +24,6 @@ magnitude (fin s m e) = fin false m e
 unfoldable pub larger : Float → Float → Float
 larger a b = cond (lt b a) a b
 
--- the smaller of two, likewise
-unfoldable pub lesser : Float → Float → Float
-lesser a b = cond (lt a b) a b
-
 -- 01, first paragraph: trunc drops the fraction. Below 0 and where there is no number it is 0, and at most 2 ^ 64 - 1.
 abbrev pub trunc : Float → ℕ
 trunc x = toUnsigned 64 x

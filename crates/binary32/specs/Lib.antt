@@ -1,1 +1,2 @@
 pub mod Binary32
+pub mod Inner

@@ -11,6 +11,7 @@ ghost use mathlib.Core.Bool.{not};
 ghost use lib.Dec.{T};
 ghost use lib.Ieee.{isNan};
 ghost use Rattle.binary32.specs.Binary32 as Spec;
+ghost use Rattle.binary32.specs.Inner as Inner;
 
 // Whether the bits are at most 3F800000 hexadecimal. The bits of what is no number may not be read, so it is tested first.
 pub fn unit(x: f32) -> bool
@@ -38,7 +39,7 @@ pub fn larger(a: f32, b: f32) -> f32
 }
 
 pub fn lesser(a: f32, b: f32) -> f32
-    ensures { λ r. ⌜ r ≡ Spec.lesser a b ⌝ }
+    ensures { λ r. ⌜ r ≡ Inner.lesser a b ⌝ }
 {
     if a < b { a } else { b }
 }

@@ -9,7 +9,8 @@ use lib.Dec.{ltb}
 use lib.Ieee.{Float}
 use lib.ListN.{length, take}
 use Rattle.board.specs.Board.{sidesOutside}
-use Rattle.board.specs.Planes.{allUnits, planesAnswer, FitPlanes}
+use Rattle.board.specs.Planes.{allUnits, planesAnswer}
+use Rattle.board.specs.Inner.{FitPlanes}
 use Rattle.board.proofs.Sides.{neither, passed, sides-in, sides-pass}
 
 true-of-not : (b : Bool) → not b ≡ false → b ≡ true

@@ -7,7 +7,7 @@ use native.Mathlib.Omega.{arith}
 use borrow.Author.Tests.{leb-true, ltb-false, le-ltb}
 use lib.Dec.{leb, ltb}
 use Rattle.board.specs.Board.{leastPlaneSide, outside, sidesOutside, hasChannel}
-use Rattle.board.specs.Planes.{SidesIn}
+use Rattle.board.specs.Inner.{SidesIn}
 
 pub and-true : (p : Bool) → (p && true) ≡ p
 and-true true = refl

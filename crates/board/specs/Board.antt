@@ -8,17 +8,19 @@ use Rattle.board.specs.declared.Board.{Board}
 use Rattle.board.specs.declared.Bounds.{Bounds}
 use Rattle.board.specs.declared.Spacing.{Spacing}
 
--- sides of a screen that is loaded or located, and of planes that have a gradient, a channel or samples
+-- the least side of a screen that is loaded or located
 abbrev pub leastSide : ℕ
 leastSide = 12
 
+-- the least side of planes that have a gradient, a channel or samples
 abbrev pub leastPlaneSide : ℕ
 leastPlaneSide = 4
 
+-- the largest side of either
 abbrev pub mostSide : ℕ
 mostSide = 4096
 
--- the side of a cell's sample
+-- the largest side of a cell's sample
 abbrev pub mostSize : ℕ
 mostSize = 64
 

@@ -1,3 +1,4 @@
 pub mod Board
 pub mod Planes
 pub mod Screen
+pub mod Inner

@@ -11,7 +11,8 @@ ghost use Rattle.board.specs.Board.{LimitsAre};
 ghost use Rattle.board.specs.Planes.{allUnits, planesAnswer};
 ghost use Rattle.board.specs.Screen.{channelOf};
 
-// The board: its sides, its corner, the offsets that cells are counted from, its counts of rows and columns, and its pitches.
+// The board: its sides, its corner, the offsets from there at which the grid of cells begins, its counts of rows and columns, and its
+// pitches.
 #[repr(C)]
 pub struct Board {
     pub height: usize,
@@ -34,7 +35,7 @@ pub struct Bounds {
     pub c_2: usize,
 }
 
-// The cells along one axis: the offset from the corner that they are counted from, how many there are, and their pitch.
+// The cells along one axis: the offset from the corner at which their grid begins, how many there are, and their pitch.
 pub struct Spacing {
     pub offset: usize,
     pub count: usize,

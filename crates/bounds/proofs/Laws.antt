@@ -3,7 +3,7 @@ use Prim.Native.Nat.{ℕ, _+_, _-_, _*_, _/_, _≤_, _<_}
 use mathlib.Core.Bool.{Bool}
 use native.Mathlib.Omega.{arith}
 use Rattle.bounds.specs.declared.Beside.{Beside}
-use Rattle.bounds.specs.declared.Beside.the-variants.{Ahead, Before}
+use Rattle.bounds.specs.declared.Beside.the-variants.{Along, Across}
 use Rattle.board.specs.declared.Bounds.{Bounds}
 use Rattle.bounds.specs.declared.Way.the-variants.{Near, Far}
 use Rattle.lists.specs.Picture.{flip}
@@ -35,12 +35,12 @@ module _ (E : ℕ → ℕ → Bool) (across : ℕ) {along : ℕ} where
       record { low = n; high = omega (arith, f); end = omega arith }
 
   widened-encloses : (near : Beside) {a b : ℕ} → b < along →
-      Encloses along a b (widened near Near E across along a) (widened Ahead Far E across along b)
+      Encloses along a b (widened near Near E across along a) (widened Along Far E across along b)
   unfolding widened
   widened-encloses near {a} {b} h =
       let far = place Far along in
       let n = lowered-le (sumAt near E across) a in
-      let f = lowered-le (sumAt Ahead (λ p m. E p (far m)) across) (far b) in
+      let f = lowered-le (sumAt Along (λ p m. E p (far m)) across) (far b) in
       record { low = n; high = omega (arith, f); end = omega arith }
 
 -- bounds around the middle of the picture
@@ -66,6 +66,6 @@ pub record Wide (row column : ℕ) (b : Bounds) : Type 0 where
 pub wide : (E : ℕ → ℕ → Bool) {row column : ℕ} {b : Bounds} → 9 ≤ row → 9 ≤ column → BoundsIn row column b →
     row / 3 < b .«r_2» - b .«r_1» → column / 3 < b .«c_2» - b .«c_1» → Wide row column (widen E row column b)
 wide E {row} {column} {b} h k w r c =
-    let rows = widened-encloses (flip E) column Ahead {a = b .«r_1»} (w .«r_2») in
-    let columns = widened-encloses E row Before {a = b .«c_1»} (w .«c_2») in
+    let rows = widened-encloses (flip E) column Along {a = b .«r_1»} (w .«r_2») in
+    let columns = widened-encloses E row Across {a = b .«c_1»} (w .«c_2») in
     record { rows = omega arith; row-end = rows .end; columns = omega arith; column-end = columns .end }

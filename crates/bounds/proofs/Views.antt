@@ -11,7 +11,7 @@ use Rattle.bounds.specs.declared.View.{View}
 use Rattle.bounds.specs.declared.Way.{Way}
 use Rattle.bounds.specs.declared.Way.the-variants.{Near, Far}
 use Rattle.bounds.specs.Scan.{place}
-use Rattle.bounds.specs.View.{Lies, columnsOf, rowsOf}
+use Rattle.bounds.specs.Inner.{Lies, columnsOf, rowsOf}
 
 pub place-below : (way : Way) {along m : ℕ} → m < along → place way along m < along
 place-below Near h = h

@@ -2,7 +2,7 @@
 use Prim.Native.Nat.{ℕ, _<_}
 use mathlib.Core.Bool.{Bool}
 use Rattle.lists.specs.Picture.{flip}
-use Rattle.bounds.specs.declared.Beside.the-variants.{Ahead, Before}
+use Rattle.bounds.specs.declared.Beside.the-variants.{Along, Across}
 use Rattle.board.specs.declared.Bounds.{Bounds}
 use Rattle.bounds.specs.declared.Way.the-variants.{Near, Far}
 use Rattle.bounds.specs.Scan.{bound}
@@ -20,10 +20,10 @@ boundsOf E row column =
 abbrev pub widen : (ℕ → ℕ → Bool) → ℕ → ℕ → Bounds → Bounds
 widen E row column b =
     record {
-      «r_1» = widened Ahead Near (flip E) column row (b .«r_1»);
-      «r_2» = widened Ahead Far (flip E) column row (b .«r_2»);
-      «c_1» = widened Before Near E row column (b .«c_1»);
-      «c_2» = widened Ahead Far E row column (b .«c_2»);
+      «r_1» = widened Along Near (flip E) column row (b .«r_1»);
+      «r_2» = widened Along Far (flip E) column row (b .«r_2»);
+      «c_1» = widened Across Near E row column (b .«c_1»);
+      «c_2» = widened Along Far E row column (b .«c_2»);
     }
 
 -- bounds inside a picture

@@ -1,4 +1,4 @@
 pub mod Scan
-pub mod View
 pub mod Widen
 pub mod Bounds
+pub mod Inner

@@ -1,5 +1,5 @@
--- 01, "Bounds scan". One rule serves the four directions. It goes along places, with m the distance that is left to the picture's edge;
--- `at p m` is the point that lies across at p and along at the distance m. lo to hi is the middle third across, without hi.
+-- 01, "Bounds scan". One rule serves the four directions. It goes along places, with m the distance that is left to the picture's edge
+-- (of 10 columns column 5 has the distance 5 to the left and 4 to the right); `at p m` is the point that lies across at p and along at the distance m. lo to hi is the middle third across, without hi.
 use Prim.Native.Nat.{ℕ, zero, suc, _-_, _*_, _/_}
 use mathlib.Core.Bool.{Bool, cond}
 use lib.Dec.{eqb, leb, ltb}
@@ -20,7 +20,7 @@ followed Stop m go = m
 followed (To m' p') m go = go m' p'
 
 module _ (at : ℕ → ℕ → Bool) (lo hi : ℕ) where
-  -- the row of the fifth set point at the distance m; hi where there are fewer than five
+  -- the place across of the fifth set point at the distance m; hi where there are fewer than five
   abbrev pub fifth : ℕ → ℕ
   fifth m = seenAt (λ p. at p m) 4 lo (hi - lo)
 

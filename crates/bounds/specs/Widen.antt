@@ -4,7 +4,7 @@ use mathlib.Core.Bool.{Bool, cond}
 use lib.Dec.{leb}
 use Rattle.lists.specs.Picture.{bit}
 use Rattle.bounds.specs.declared.Beside.{Beside}
-use Rattle.bounds.specs.declared.Beside.the-variants.{Ahead, Before}
+use Rattle.bounds.specs.declared.Beside.the-variants.{Along, Across}
 use Rattle.bounds.specs.declared.Way.{Way}
 use Rattle.bounds.specs.Scan.{place}
 
@@ -19,10 +19,10 @@ lowered sum zero = 0
 lowered sum (suc zero) = 1
 lowered sum (suc (suc m)) = cond (leb (sum (suc (suc m))) 2) (suc (suc m)) (lowered sum (suc m))
 
--- the second point beside (p, m): the one ahead at the distance m - 1, but for columns to the left the one in the row before
+-- the second point beside (p, m): the next one along the way, at the distance m - 1; for columns to the left the one in the row before
 abbrev pub second : Beside → (ℕ → ℕ → Bool) → ℕ → ℕ → Bool
-second Ahead at p m = at p (m - 1)
-second Before at p m = at (p - 1) m
+second Along at p m = at p (m - 1)
+second Across at p m = at (p - 1) m
 
 -- how many of the two points are set
 abbrev pub pair : Beside → (ℕ → ℕ → Bool) → ℕ → ℕ → ℕ

@@ -1,5 +1,5 @@
 // The board's bounds in an edge picture: the scan from the middle outwards, and the widening (01, "Bounds scan" and "Locating").
-// Definitions: specs/Scan, specs/Widen, specs/Bounds; of the edge bytes: specs/View. Laws for callers: proofs/Laws.
+// Definitions: specs/Scan, specs/Widen, specs/Bounds; of the edge bytes: specs/Inner. Laws for callers: proofs/Laws.
 ghost use mathlib.Core.Path.{_≡_};
 ghost use Prim.Native.Nat.{_*_, _≤_, _<_};
 ghost use lib.Dec.{leb};
@@ -9,7 +9,7 @@ ghost use Rattle.bounds.specs.Bounds as Spec;
 ghost use Rattle.bounds.specs.Bounds.{boundsOf, BoundsIn};
 ghost use Rattle.bounds.specs.Scan as Scan;
 ghost use Rattle.bounds.specs.Scan.{skips, move, place, bound};
-ghost use Rattle.bounds.specs.View.{seen, low, high, Lies, columnsOf, rowsOf};
+ghost use Rattle.bounds.specs.Inner.{seen, low, high, Lies, columnsOf, rowsOf};
 ghost use Rattle.bounds.specs.Widen.{second, pair, sumAt, lowered, widened};
 use board::Bounds;
 
@@ -25,10 +25,10 @@ enum Move {
     To(usize, usize),
 }
 
-// The second point of a sum of the widening: the next one ahead, or the one before it across.
+// The second point of a sum of the widening: the next one along the way, or the one before it across.
 enum Beside {
-    Ahead,
-    Before,
+    Along,
+    Across,
 }
 
 // A picture in the edge bytes, seen along one way: `across` rows and `along` columns, with the point in row p and column q at
@@ -180,8 +180,8 @@ fn second_at(e: &[u8], v: View, beside: Beside, p: usize, m: usize) -> bool
     ensures { λ r. ⌜ r ≡ second beside (seen v (now (e .entry))) p m ⌝ }
 {
     match beside {
-        Beside::Ahead => is_set(e, v, p, m - 1),
-        Beside::Before => is_set(e, v, p - 1, m),
+        Beside::Along => is_set(e, v, p, m - 1),
+        Beside::Across => is_set(e, v, p - 1, m),
     }
 }
 
@@ -245,25 +245,25 @@ pub fn widen(edges: &[u8], stride: usize, row: usize, column: usize, b: Bounds) 
         r_1: widened_from(
             edges,
             rows(Way::Near, row, column, stride),
-            Beside::Ahead,
+            Beside::Along,
             b.r_1,
         ),
         r_2: widened_from(
             edges,
             rows(Way::Far, row, column, stride),
-            Beside::Ahead,
+            Beside::Along,
             b.r_2,
         ),
         c_1: widened_from(
             edges,
             columns(Way::Near, row, column, stride),
-            Beside::Before,
+            Beside::Across,
             b.c_1,
         ),
         c_2: widened_from(
             edges,
             columns(Way::Far, row, column, stride),
-            Beside::Ahead,
+            Beside::Along,
             b.c_2,
         ),
     }

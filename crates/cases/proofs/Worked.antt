@@ -13,4 +13,4 @@ use Rattle.cases.specs.Cases.{All, cases}
 pub worked : All cases
 unfolding ofBits le add mul div ofInt toUnsigned entry bound score lineThreshold smooth isLine linesOf estimate
     narrowGap winner quartersOf readingOf sampledAt
-worked = (refl, (refl, (refl, (refl, (refl, (refl, (refl, (refl, (refl, ((refl, refl), ((refl, refl), (refl, (refl, (refl, tt))))))))))))))
+worked = (refl, (refl, ((λ E. refl), (refl, (refl, (refl, (refl, (refl, (refl, ((refl, refl), ((refl, refl), (refl, (refl, (refl, tt))))))))))))))

@@ -5,7 +5,7 @@ use mathlib.Core.Bool.{Bool, true, false, cond, _||_}
 use mathlib.Core.List.{List, [], _∷_}
 use lib.Dec.{eqb}
 use lib.Ieee.{Float, binary32, ofBits}
-use lib.ListN.{length}
+use lib.ListN.{length, replicate}
 use Rattle.lists.specs.Tab.{tabFrom, tab}
 use Rattle.board.specs.declared.Bounds.{Bounds}
 use Rattle.bounds.specs.Bounds.{boundsOf}
@@ -23,7 +23,11 @@ Picture = ℕ → ℕ → Bool
 pub data Case : Type 0 where
   -- the bounds of a 10 by 10 picture
   bounded : Picture → Bounds → Case
-  -- the score over so many steps down a strip of this picture, for a target lane
+  -- the score over 0 steps, of every picture and for every target lane
+  still : ℕ → Case
+  -- the score over so many steps down a strip of this picture, for every target lane
+  scoredAll : Picture → ℕ → ℕ → Case
+  -- the same for one target lane
   scored : Picture → ℕ → ℕ → ℕ → Case
   -- what a list reads as
   read : List ℕ → Reading → Case
@@ -32,9 +36,15 @@ pub data Case : Type 0 where
   -- the sampled rows of corner, offset, pitch, x and size
   sampled : ℕ → ℕ → Float → ℕ → ℕ → List ℕ → Case
 
+-- the scores over so many steps down a strip, for the target lanes 0 to 4
+abbrev pub laneScores : Picture → ℕ → List ℕ
+laneScores E steps = tab 5 (λ k. score E 0 steps (at 0 k))
+
 -- what a case says; a list has the scratch that it asks for
 abbrev pub Holds : Case → Type 0
 Holds (bounded E b) = boundsOf E 10 10 ≡ b
+Holds (still s) = (E : Picture) → laneScores E 0 ≡ replicate 5 s
+Holds (scoredAll E steps s) = laneScores E steps ≡ replicate 5 s
 Holds (scored E steps k s) = score E 0 steps (at 0 k) ≡ s
 Holds (read l r) = readingOf l (4 * length l) ≡ r
 Holds (lined l lines r) = (linesOf l ≡ lines) × (readingOf l (4 * length l) ≡ r)
@@ -44,11 +54,11 @@ abbrev pub All : List Case → Type 0
 All [] = Unit
 All (c ∷ cs) = Holds c × All cs
 
-abbrev pub blank : Picture
-blank i j = false
+abbrev pub allUnset : Picture
+allUnset i j = false
 
-abbrev pub full : Picture
-full i j = true
+abbrev pub allSet : Picture
+allSet i j = true
 
 -- only one lane is set
 abbrev pub only : ℕ → Picture
@@ -78,12 +88,12 @@ twoHundred = ofBits binary32 0x43480000
 abbrev pub cases : List Case
 cases =
     -- blank 10 by 10 E: bounds 5, 5, 5, 5; all set: 0, 9, 0, 9
-    bounded blank (bounds 5 5 5 5)
-    ∷ bounded full (bounds 0 9 0 9)
+    bounded allUnset (bounds 5 5 5 5)
+    ∷ bounded allSet (bounds 0 9 0 9)
     -- strips: 0 steps, 0; 3 steps all unset, 0; 3 steps all set, 3; k = 2, only lane 3 set, 3 steps, 1; 2 steps, 0
-    ∷ scored full 0 2 0
-    ∷ scored blank 3 2 0
-    ∷ scored full 3 2 3
+    ∷ still 0
+    ∷ scoredAll allUnset 3 0
+    ∷ scoredAll allSet 3 3
     ∷ scored (only 3) 3 2 1
     ∷ scored (only 3) 2 2 0
     -- lists of 30, zero but for tens at: 3, 13, 23: pitch 10.0, offset 3, count 2, votes 3; 3, 12: 9.0, 3, 1, 2

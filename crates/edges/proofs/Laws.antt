@@ -14,10 +14,11 @@ use Rattle.lists.proofs.Tab.{getD-tab, length-tabFrom}
 use Rattle.lists.proofs.Picture.{bit-le}
 use Rattle.binary32.proofs.Plain.{plain-bits}
 use Rattle.board.specs.Board.{leastPlaneSide}
-use Rattle.board.specs.Planes.{FitPlanes}
+use Rattle.board.specs.Inner.{FitPlanes}
 use Rattle.gradient.specs.Gradient.{gradients}
 use Rattle.gradient.proofs.Laws.{length-gradients, gradients-plain}
-use Rattle.edges.specs.Edges.{threshold, marks, marked, edges, AllPlain}
+use Rattle.edges.specs.Edges.{threshold, marks, marked, edges}
+use Rattle.edges.specs.Inner.{AllPlain}
 
 pub all-plain : {h w : ℕ} {planes : List Float} → FitPlanes leastPlaneSide h w planes → AllPlain (gradients h w planes)
 all-plain {h} {w} {planes} f k b = plain-bits _ (gradients-plain planes h w f k (omega (arith, length-gradients h w planes)))

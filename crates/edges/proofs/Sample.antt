@@ -17,9 +17,9 @@ use Rattle.lists.proofs.Tab.{length-tabFrom, getD-tab, tab-same}
 use Rattle.lists.proofs.Grid.{row-column, tab-more, grid-more}
 use Rattle.binary32.proofs.Plain.{Plain, bits-plain, at-most-bits}
 use Rattle.binary32.proofs.Share.{share-below}
-use Rattle.rank.specs.Rank.{atMost, countAtMost}
-use Rattle.edges.specs.Edges.{middle, sample, rankOf, AllPlain}
-use Rattle.edges.specs.Counts.{taken, start, part}
+use Rattle.rank.specs.Inner.{atMost, countAtMost}
+use Rattle.edges.specs.Edges.{middle, sample, rankOf}
+use Rattle.edges.specs.Inner.{AllPlain, taken, start, part}
 
 -- every value of l is such
 abbrev pub AllAre : (Float → Type 0) → List Float → Type 0

@@ -10,11 +10,12 @@ use lib.Ieee.{Float, nan, binary32, toBits, ofBits}
 use lib.Ieee.Bits.{ofBits-toBits}
 use lib.ListN.{length}
 use Rattle.binary32.proofs.Plain.{Plain, bits-back, above-bits, below-bits}
-use Rattle.rank.specs.Rank.{entry, countAtMost}
+use Rattle.rank.specs.Rank.{entry}
+use Rattle.rank.specs.Inner.{countAtMost}
 use Rattle.rank.proofs.Entry.{at-least, at-most}
 use Rattle.rank.proofs.Members.{entry-has}
 use Rattle.edges.specs.Edges.{sample, clip, rankOf, threshold}
-use Rattle.edges.specs.Counts.{sought, Cut}
+use Rattle.edges.specs.Inner.{sought, Cut}
 use Rattle.edges.specs.declared.Range.{Range}
 use Rattle.edges.proofs.Sample.{AllAre}
 

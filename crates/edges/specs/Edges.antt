@@ -1,6 +1,5 @@
 -- 01, "Gradient and threshold", second paragraph. g is the list of gradients, `row` rows of `column` each.
-use Prim.Native.Nat.{ℕ, _+_, _-_, _*_, _/_, _≤_, _<_}
-use mathlib.Core.Path.{_≡_}
+use Prim.Native.Nat.{ℕ, _+_, _-_, _*_, _/_}
 use mathlib.Core.Bool.{cond}
 use mathlib.Core.List.{List}
 use lib.Ieee.{Float, nan, binary32, lt, le, mul, ofBits, toBits}
@@ -44,14 +43,3 @@ marked row column g = marks (threshold row column g) (row * column) g
 -- the edge picture E of the planes of an h by w screen, as bytes, rows first
 abbrev pub edges : ℕ → ℕ → List Float → List ℕ
 edges h w planes = marked (h - 2) (w - 2) (gradients h w planes)
-
--- ---- for the contracts inside
-
--- every value has bits of at most infinity's: none is negative, -0.0 or NaN
-abbrev pub AllPlain : List Float → Type 0
-AllPlain g = (k : ℕ) → k < length g → toBits binary32 (getD g k nan) ≤ 0x7F800000
-
--- gradients of sides that a screen's have, and room for a byte each
-abbrev pub EdgesFit : ℕ → ℕ → List Float → List ℕ → Type 0
-EdgesFit row column g out =
-    (2 ≤ row) × (row ≤ 4094) × (2 ≤ column) × (column ≤ 4094) × (length g ≡ row * column) × (row * column ≤ length out)

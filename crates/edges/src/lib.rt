@@ -1,5 +1,5 @@
 // Threshold and edge bytes of a list of gradients (01, "Gradient and threshold", second paragraph).
-// Definitions: specs/Edges; specs/Counts has those of the search for the threshold by counting. Laws for callers: proofs/Laws.
+// Definitions: specs/Edges; specs/Inner has those of the search for the threshold by counting. Laws for callers: proofs/Laws.
 ghost use mathlib.Core.Path.{_≡_};
 ghost use Prim.Native.Nat.{_+_, _-_, _*_, _^_, _≤_, _<_};
 ghost use lib.Ieee.{nan, binary32, le, toBits};
@@ -7,11 +7,11 @@ ghost use lib.ListN.{length, getD};
 ghost use Rattle.lists.specs.Front.{AtFront};
 ghost use Rattle.lists.specs.Tab.{tab};
 ghost use Rattle.lists.specs.Picture.{bit};
-ghost use Rattle.rank.specs.Rank.{countAtMost};
+ghost use Rattle.rank.specs.Inner.{countAtMost};
 ghost use Rattle.edges.specs.Edges as Spec;
-ghost use Rattle.edges.specs.Edges.{sample, rankOf, threshold, marked, AllPlain, EdgesFit};
-ghost use Rattle.edges.specs.Counts as Counts;
-ghost use Rattle.edges.specs.Counts.{GradientsFit, part, start, sought, Cut};
+ghost use Rattle.edges.specs.Edges.{sample, rankOf, threshold, marked};
+ghost use Rattle.edges.specs.Inner.{AllPlain, EdgesFit, GradientsFit, part, start, sought, Cut};
+ghost use Rattle.edges.specs.Inner as Inner;
 
 // The bits of 0.01 and of 1.0, the limits of the threshold.
 const LEAST_BITS: u32 = 0x3C23D70A;
@@ -71,7 +71,7 @@ fn middle(side: usize) -> usize
 // The rows of a part of the sample, or the columns of each.
 fn taken(every: usize, side: usize) -> usize
     requires { ⌜ (1 ≤ every) × (side ≤ 4094) ⌝ }
-    ensures { λ r. ⌜ (r ≡ Counts.taken every side) × (r ≤ 2048) ⌝ }
+    ensures { λ r. ⌜ (r ≡ Inner.taken every side) × (r ≤ 2048) ⌝ }
 {
     middle(side) / every
 }
@@ -86,7 +86,7 @@ fn row_start(
     i: usize,
 ) -> usize
     requires { ⌜ (1 ≤ every) × (1 ≤ parts) × (row ≤ 4094) × (column ≤ 4094) ⌝ }
-    requires { ⌜ (columns ≡ Counts.taken parts column) × (i < Counts.taken every row) ⌝ }
+    requires { ⌜ (columns ≡ Inner.taken parts column) × (i < Inner.taken every row) ⌝ }
     ensures { λ r. ⌜ (r ≡ start every parts row column i) × (r + columns ≤ row * column) ⌝ }
 {
     (row / 4 + (every * i + i * i / 7 % every)) * column + (column / 4 + 3 * i % parts * columns)
@@ -136,6 +136,7 @@ fn cut(r: Range, mid: u32, rank: u64, count: u32) -> Range
     }
 }
 
+// It promises nothing: see "Where to count", below.
 fn either(first: bool, a: u32, b: u32) -> u32 {
     if first { a } else { b }
 }
@@ -146,6 +147,10 @@ fn less(a: u32, b: u32) -> u32
 {
     if a < b { 0 } else { a - b }
 }
+
+// Where to count. `seen_first`, `seen_next` and what they and `next_count` use for it (`either`, `size_of_part`, `guessing`, `wider`,
+// `rank_in_part`) promise nothing, and no promise is owed: `cut` keeps the entry sought in the range wherever within it is counted, and
+// `next_count` promises a place within it whatever was seen. A bad place costs time alone.
 
 // What the counts told, to choose the place of the next one; only the time depends on it. How many values of the sample, and of the part,
 // are below the range and up to its end (at first 0 and all); how many guesses are left; how far from an end to count without a guess; and

@@ -1,28 +1,16 @@
 // The C interface: include/folgutan.h documents it. Each function carries the contract of the one that it wraps; a reading
-// crosses as a struct (specs/Line). It asks nothing of its caller beyond valid slices that do not overlap.
-ghost use mathlib.Core.Path.{_≡_};
-ghost use lib.ListN.{length};
+// crosses as a struct, `reading::Line`. It asks nothing of its caller beyond valid slices that do not overlap.
 ghost use Rattle.load.specs.Load.{mostByte, LoadGives};
 ghost use Rattle.gradient.specs.Gradient.{GradientGives};
-ghost use Rattle.reading.specs.Reading.{readingOf, KeptBeyond};
+ghost use Rattle.reading.specs.Reading.{LineGives};
 ghost use Rattle.locate.specs.Locate.{lent, LocateGives};
 ghost use Rattle.locate.specs.Promise.{Promise};
 ghost use Rattle.sample.specs.Sample.{SampleGives};
-ghost use Rattle.folgutan.specs.Line.{lineOf};
 use board::Board;
 use load::Loaded;
 use locate::Located;
+use reading::Line;
 use reading::Reading;
-
-// A reading as C has it: zeros unless the answer is 0.
-#[repr(C)]
-pub struct Line {
-    pub answer: u32,
-    pub pitch: f32,
-    pub offset: usize,
-    pub count: usize,
-    pub votes: usize,
-}
 
 #[no_mangle]
 pub extern "C" fn folgutan_load(
@@ -78,8 +66,7 @@ pub extern "C" fn folgutan_locate(
 
 #[no_mangle]
 pub extern "C" fn folgutan_read_line(list: &[u32], scratch: &mut [u32]) -> Line
-    ensures reads { λ r. ⌜ r ≡ lineOf (readingOf (now (list .entry)) (length (now (scratch .entry)))) ⌝ }
-    ensures kept { λ _. ⌜ KeptBeyond (now (list .entry)) (now (scratch .entry)) (now (scratch .exit)) ⌝ }
+    ensures { λ r. ⌜ LineGives (now (list .entry)) (now (scratch .entry)) r (now (scratch .exit)) ⌝ }
 {
     let reading = reading::get_line(list, scratch);
     match reading {

@@ -10,7 +10,8 @@ use lib.ListN.{length}
 use Rattle.lists.specs.Front.{AtFront}
 use Rattle.lists.proofs.Front.{front-none}
 use Rattle.board.specs.Board.{leastPlaneSide}
-use Rattle.board.specs.Planes.{planesAnswer, FitPlanes}
+use Rattle.board.specs.Planes.{planesAnswer}
+use Rattle.board.specs.Inner.{FitPlanes}
 use Rattle.board.proofs.Planes.{planes-fit}
 use Rattle.gradient.specs.Gradient.{gradients, GradientGives}
 

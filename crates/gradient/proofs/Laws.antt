@@ -13,9 +13,10 @@ use Rattle.lists.proofs.Grid.{row-column}
 use Rattle.binary32.specs.Binary32.{magnitude}
 use Rattle.binary32.proofs.Plain.{Plain, plain-of, plain-magnitude, plain-larger}
 use Rattle.board.specs.Board.{leastPlaneSide}
-use Rattle.board.specs.Planes.{FitPlanes}
+use Rattle.board.specs.Inner.{FitPlanes}
 use Rattle.board.specs.Screen.{view}
-use Rattle.gradient.specs.Gradient.{rowSum, steeper, gradientAt, gradients, square, UnitsTo}
+use Rattle.gradient.specs.Gradient.{rowSum, steeper, gradientAt, gradients}
+use Rattle.gradient.specs.Inner.{square, UnitsTo}
 use Rattle.gradient.proofs.Squares.{Place, place, square-number, steeper-is, steepest-is, gradient-at}
 use Rattle.gradient.proofs.Units.{units-to}
 

@@ -13,9 +13,10 @@ use Rattle.lists.specs.Picture.{flip}
 use Rattle.binary32.specs.Binary32.{unit, magnitude, larger}
 use Rattle.binary32.proofs.Numbers.{Number, add-number, sub-number, finite-number, neg-finite, unit-finite}
 use Rattle.board.specs.Board.{leastPlaneSide}
-use Rattle.board.specs.Planes.{SidesIn}
+use Rattle.board.specs.Inner.{SidesIn}
 use Rattle.board.specs.Screen.{view}
-use Rattle.gradient.specs.Gradient.{difference, rowSum, steeper, gradientAt, square, UnitsTo}
+use Rattle.gradient.specs.Gradient.{difference, rowSum, steeper, gradientAt}
+use Rattle.gradient.specs.Inner.{square, UnitsTo}
 
 -- ---- where a square stands
 

@@ -1,15 +1,15 @@
 -- 01, "Gradient and threshold", first paragraph, and the gradient's refusals. All sums are binary32, rounded one operation at a time.
-use Prim.Native.Nat.{ℕ, _+_, _-_, _*_, _≤_}
-use mathlib.Core.Bool.{true, cond}
+use Prim.Native.Nat.{ℕ, _+_, _-_, _*_}
+use mathlib.Core.Bool.{cond}
 use mathlib.Core.List.{List, []}
 use mathlib.Core.Path.{_≡_}
 use lib.Dec.{eqb, ltb}
-use lib.Ieee.{Float, nan, binary32, neg, add, sub, ofBits}
-use lib.ListN.{length, getD}
+use lib.Ieee.{Float, binary32, neg, add, sub, ofBits}
+use lib.ListN.{length}
 use Rattle.lists.specs.Front.{AtFront}
 use Rattle.lists.specs.Tab.{grid}
 use Rattle.lists.specs.Picture.{flip}
-use Rattle.binary32.specs.Binary32.{unit, magnitude, larger}
+use Rattle.binary32.specs.Binary32.{magnitude, larger}
 use Rattle.board.specs.Board.{leastPlaneSide}
 use Rattle.board.specs.Planes.{planesAnswer}
 use Rattle.board.specs.Screen.{view}
@@ -45,13 +45,3 @@ gradients h w planes = grid (h - 2) (w - 2) (gradientAt (view h w planes .px))
 pub record GradientGives (h w : ℕ) (planes before : List Float) (answer : ℕ) (after : List Float) : Type 0 where
   pub answer-is : answer ≡ planesAnswer leastPlaneSide h w planes (ltb (length before) ((h - 2) * (w - 2)))
   pub out-is : AtFront (cond (eqb answer 0) (gradients h w planes) []) before after
-
--- ---- for the contracts inside
-
--- the picture that a list holds from `at` on, where the next row is `down` entries further and the next column `right`
-abbrev pub square : List Float → ℕ → ℕ → ℕ → ℕ → ℕ → Float
-square p at down right i j = getD p (at + (i * down + j * right)) nan
-
--- every value up to the place `last` is a unit
-abbrev pub UnitsTo : List Float → ℕ → Type 0
-UnitsTo p last = (k : ℕ) → k ≤ last → unit (getD p k nan) ≡ true

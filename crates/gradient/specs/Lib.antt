@@ -1,1 +1,2 @@
 pub mod Gradient
+pub mod Inner

@@ -8,9 +8,11 @@ ghost use lib.ListN.{length, take};
 ghost use Rattle.lists.specs.Front.{AtFront};
 ghost use Rattle.binary32.specs.Binary32.{magnitude};
 ghost use Rattle.board.specs.Board.{leastPlaneSide, sidesOutside};
-ghost use Rattle.board.specs.Planes.{allUnits, FitPlanes};
+ghost use Rattle.board.specs.Planes.{allUnits};
+ghost use Rattle.board.specs.Inner.{FitPlanes};
 ghost use Rattle.gradient.specs.Gradient as Spec;
-ghost use Rattle.gradient.specs.Gradient.{square, rowSum, gradientAt, gradients, UnitsTo, GradientGives};
+ghost use Rattle.gradient.specs.Gradient.{rowSum, gradientAt, gradients, GradientGives};
+ghost use Rattle.gradient.specs.Inner.{square, UnitsTo};
 use board::Board;
 
 fn difference(a: f32, b: f32, c: f32, d: f32, e: f32, f: f32) -> f32

@@ -7,6 +7,15 @@ ghost use Prim.Native.Nat.{_+_, _-_, _≤_};
 ghost use lib.ListN.{getD, drop};
 ghost use Rattle.header.specs.Header.{begins, isDigit, digitsEnd, fourAtMost, valueAt};
 ghost use Rattle.header.specs.Header.{shownSide, sized, numbersAt, headerOf};
+use board::Board;
+
+// The largest side of a screen that the program takes.
+pub const MOST_SHOWN: usize = 64;
+
+// The bytes of the first line, and at most of the second, each with its line feed.
+pub const FIRST_LINE: usize = 13;
+
+pub const SECOND_LINE: usize = 10;
 
 // The sides and where the pixels begin, or the number of the refusal.
 pub enum Input {
@@ -103,10 +112,10 @@ fn number(bytes: &[u8], from: usize, end: usize) -> usize
 fn shown_side(side: usize) -> bool
     ensures { λ r. ⌜ r ≡ shownSide side ⌝ }
 {
-    if side < 12 {
+    if side < Board::LEAST_SIDE {
         return false;
     }
-    side <= 64
+    side <= MOST_SHOWN
 }
 
 fn sized_of(height: usize, width: usize, at: usize) -> Input
@@ -148,7 +157,7 @@ pub fn header(bytes: &[u8]) -> Input
     ensures { λ r. ⌜ r ≡ headerOf (now (bytes .entry)) ⌝ }
 {
     if begins_with(b"height width\n", bytes) {
-        return numbers_at(bytes, 13);
+        return numbers_at(bytes, FIRST_LINE);
     }
     Input::Refused(11)
 }

@@ -12,7 +12,7 @@ use Rattle.lists.specs.Picture.{bit, points}
 use Rattle.lists.proofs.Picture.{bit-le}
 use Rattle.lanes.specs.declared.Lanes.{Lanes}
 use Rattle.lanes.specs.Score.{Place, at, onward, leastCost, onStrip, score}
-use Rattle.lanes.specs.States.{LanesHold, Below, unset, Advanced, Walked}
+use Rattle.lanes.specs.Inner.{LanesHold, Below, unset, Advanced, Walked}
 use Rattle.lanes.proofs.Walks.{least-cost-stays}
 
 -- the point of lane j is in the picture if that of lane 4 is

@@ -10,7 +10,7 @@ use lib.ListN.{length, getD, set, length-set}
 use lib.Seq.{getD-set-same, getD-set-other}
 use Rattle.lanes.specs.declared.Lanes.{Lanes}
 use Rattle.lanes.specs.Score.{at, score}
-use Rattle.lanes.specs.Sweep.{lanesOf, Stored, Swept}
+use Rattle.lanes.specs.Inner.{lanesOf, Stored, Swept}
 use Rattle.lanes.proofs.States.{lane-score}
 
 -- a store at another place, and one further on

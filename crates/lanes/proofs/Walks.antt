@@ -166,7 +166,7 @@ module _ (set : ℕ → ℕ → Bool) (k : ℕ) where
       let w = least-cost-attained n (f .0) (f .1) in
       attained-on (w .0) (f .0) j (w .1) (w .2) h (f .2) (f .3)
 
--- no walk that ends at a place scores better
+-- a place's score is the best of the walks that end at it: none scores more
 pub no-better : (E : ℕ → ℕ → Bool) (from to : ℕ) (p : Place) (w : Walk (to - from)) → ends w ≡ p .lane →
     ScoresAtMost (onStrip E from p) (p .lane) w (score E from to p)
 unfolding score
@@ -175,7 +175,7 @@ no-better E from to p w e =
     let q = rw e at l in
     omega (arith, q)
 
--- one scores just as much
+-- and one scores just as much
 pub attained : (E : ℕ → ℕ → Bool) (from to : ℕ) (p : Place) → p .lane ≤ 4 →
     (w : Walk (to - from)) × (ends w ≡ p .lane) × Scores (onStrip E from p) (p .lane) w (score E from to p)
 unfolding score

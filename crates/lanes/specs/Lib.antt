@@ -1,4 +1,3 @@
 pub mod Walk
 pub mod Score
-pub mod States
-pub mod Sweep
+pub mod Inner

@@ -27,6 +27,6 @@ leastCost set k (suc t) j = onward (λ i. leastCost set k t i + bit (not (set (s
 abbrev pub onStrip : (ℕ → ℕ → Bool) → ℕ → Place → ℕ → ℕ → Bool
 onStrip E from p t j = E (from + t) (p .strip + j)
 
--- the score of a place over rows from to `to`
+-- the score of a place over the rows `from` to `to`
 unfoldable pub score : (ℕ → ℕ → Bool) → ℕ → ℕ → Place → ℕ
 score E from to p = to - from - leastCost (onStrip E from p) (p .lane) (to - from) (p .lane)

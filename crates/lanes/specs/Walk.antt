@@ -19,8 +19,8 @@ pub record Walk (steps : ℕ) : Type 0 where
 abbrev pub ends : {steps : ℕ} → Walk steps → ℕ
 ends {steps} w = w .lane steps
 
--- the cost of the first `steps` steps to the target lane k: from the target to the first lane, each sideways move,
--- and one for each step whose point (new row, old lane) is unset
+-- the cost of the first t steps to the target lane k: from the target to the first lane, each sideways move, and one for each step whose
+-- point (new row, old lane) is unset
 abbrev pub costOf : (ℕ → ℕ → Bool) → ℕ → (ℕ → ℕ) → ℕ → ℕ
 costOf set k lane zero = apart (lane 0) k
 costOf set k lane (suc t) = costOf set k lane t + (apart (lane t) (lane (suc t)) + bit (not (set (suc t) (lane t))))

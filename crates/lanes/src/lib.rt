@@ -1,5 +1,5 @@
 // Strips walked down row by row (01, "Path scores"): one by itself, and many side by side. The promises rest on specs/Score and specs/Walk;
-// specs/States and specs/Sweep are for the code.
+// specs/Inner is for the code.
 // Laws for callers: proofs/Walks (a score is that of the best walk), proofs/States (one row more, and the target lane at the end).
 // A lane's state is 5 and the steps so far, less the least cost: a set point adds 1, a sideways move takes 1 off, and none falls below 1.
 ghost use mathlib.Core.Path.{_≡_};
@@ -10,8 +10,7 @@ ghost use Rattle.lists.specs.Tab.{tab};
 ghost use Rattle.lists.specs.Picture.{points};
 ghost use Rattle.lanes.specs.Walk.{apart};
 ghost use Rattle.lanes.specs.Score.{at, onward, score};
-ghost use Rattle.lanes.specs.States.{Marks, LanesHold, Below, unset, Pointed, Advanced};
-ghost use Rattle.lanes.specs.Sweep.{lanesOf, Stored, Swept, sweptScores};
+ghost use Rattle.lanes.specs.Inner.{Marks, LanesHold, Below, unset, Pointed, Advanced, lanesOf, Stored, Swept, sweptScores};
 
 // Lanes 0 to 4 of one strip.
 pub struct Lanes {

@@ -7,7 +7,8 @@ use native.Mathlib.Nat.{add-sub-cancel-left}
 use native.Mathlib.Omega.{arith}
 use lib.ListN.{length, getD, take, drop, length-drop}
 use lib.Seq.{take-all}
-use Rattle.lines.specs.Lines.{narrowGap, dropFirst, dropLast, Remains}
+use Rattle.lines.specs.Lines.{narrowGap, dropFirst, dropLast}
+use Rattle.lines.specs.Inner.{Remains}
 
 module _ (e : ℕ) where
   pub first-alone : (l : List ℕ) → length l < 2 → l ≡ dropFirst e l

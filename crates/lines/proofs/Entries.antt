@@ -7,7 +7,8 @@ use native.Mathlib.Omega.{arith}
 use borrow.Author.Tests.{ltb-true, ltb-false}
 use lib.Dec.{ltb}
 use lib.ListN.{length}
-use Rattle.rank.specs.Rank.{self, entry, countAtMost}
+use Rattle.rank.specs.Rank.{self, entry}
+use Rattle.rank.specs.Inner.{countAtMost}
 use Rattle.rank.proofs.Counts.{count-all}
 use Rattle.rank.proofs.Entry.{at-least, entry-none}
 use Rattle.lines.specs.Lines.{largest}

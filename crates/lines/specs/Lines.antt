@@ -1,6 +1,5 @@
 -- 01, "Lines and votes", first paragraph: the lines of a list s of scores, and the estimate e of their gap.
-use Prim.Native.Nat.{ℕ, _+_, _-_, _≤_, min, max}
-use mathlib.Core.Path.{_≡_}
+use Prim.Native.Nat.{ℕ, _+_, _-_, min, max}
 use mathlib.Core.Bool.{Bool, cond, _&&_, _||_}
 use mathlib.Core.List.{List, [], _∷_}
 use lib.Dec.{leb, ltb, eqb}
@@ -14,12 +13,6 @@ use Rattle.rank.specs.Rank.{self, entry}
 abbrev pub largest : List ℕ → ℕ
 largest [] = 0
 largest (x ∷ l) = max x (largest l)
-
--- a list of scores within the limits: 4 to 4,096 of them, none above 4,096
-pub record InLimits (s : List ℕ) : Type 0 where
-  pub shortest : 4 ≤ length s
-  pub longest : length s ≤ 4096
-  pub entries : largest s ≤ 4096
 
 -- th = (sorted[trunc(0.85·L)] + last sorted · 0.75) / 2.0
 unfoldable pub lineThreshold : List ℕ → Float
@@ -38,7 +31,7 @@ entriesBefore n l i = take (i - (i - n)) (drop (i - n) l)
 abbrev pub entriesBehind : ℕ → List ℕ → ℕ → List ℕ
 entriesBehind n l i = take n (drop (i + 1) l)
 
--- t: the first and last four as s, else the larger of s(i) and the smaller of the largest four before and after
+-- t: the first and last four as s, else the larger of s(i) and the smaller of two: the largest of the four before, and of the four after
 abbrev pub smoothed : List ℕ → ℕ → ℕ
 smoothed s i =
     cond (ltb i 4 || leb (length s) (i + 4))
@@ -51,7 +44,7 @@ smooth s = tab (length s) (smoothed s)
 abbrev pub countEqual : ℕ → List ℕ → ℕ
 countEqual v l = count (λ x. eqb x v) l
 
--- of the entries before v and those after it none is larger, and the equals before are those after, or one less
+-- of the entries before v and those after it none is larger, and the equals before are as many as those after, or one less
 abbrev pub standsOut : ℕ → List ℕ → List ℕ → Bool
 standsOut v a b =
     leb (largest a) v && (leb (largest b) v && (eqb (countEqual v a) (countEqual v b) || eqb (countEqual v a + 1) (countEqual v b)))
@@ -107,11 +100,3 @@ dropLast e [] = []
 dropLast e (x ∷ []) = x ∷ []
 dropLast e (x ∷ y ∷ []) = cond (narrowGap e (y - x)) (x ∷ []) (x ∷ y ∷ [])
 dropLast e (x ∷ y ∷ z ∷ l) = x ∷ dropLast e (y ∷ z ∷ l)
-
--- ---- for the contracts inside
-
--- the lines that remain after both drops, as a part of the lines
-pub record Remains (e : ℕ) (lines : List ℕ) (from end : ℕ) : Type 0 where
-  pub rising : from ≤ end
-  pub inside : end ≤ length lines
-  pub is : take (end - from) (drop from lines) ≡ dropLast e (dropFirst e lines)

@@ -6,9 +6,10 @@ ghost use Prim.Native.Nat.{_+_, _-_, _≤_, _<_, min, max};
 ghost use lib.Dec.{eqb};
 ghost use lib.ListN.{length, getD, take, drop};
 ghost use Rattle.lists.specs.Front.{AtFront};
-ghost use Rattle.lines.specs.Lines.{largest, InLimits, entriesBefore, entriesBehind, smoothed, smooth, standsOut, isLine, linesOf};
+ghost use Rattle.lines.specs.Lines.{largest, entriesBefore, entriesBehind, smoothed, smooth, standsOut, isLine, linesOf};
+ghost use Rattle.lines.specs.Inner.{InLimits, Remains};
 ghost use Rattle.lines.specs.Lines.{lineThreshold};
-ghost use Rattle.lines.specs.Lines.{placesOf, wideGaps, chosenGap, narrowGap, dropFirst, dropLast, Remains};
+ghost use Rattle.lines.specs.Lines.{placesOf, wideGaps, chosenGap, narrowGap, dropFirst, dropLast};
 
 // No score is above this, and no list longer.
 const MOST: u32 = 4096;

@@ -10,7 +10,8 @@ use lib.ListN.{length, take, drop, getD, set, length-set, length-append, length-
 use lib.Seq.{take-at, take-append-le, length-take-le, drop-at, drop-drop, drop-length, drop-append-le}
 use lib.Seq.{set-split, getD-append-add, getD-drop}
 use borrow.Rule.Slice.PartMut.{midOf, putMid, same-len-mid}
-use Rattle.lists.specs.Front.{AtFront, Placed}
+use Rattle.lists.specs.Front.{AtFront}
+use Rattle.lists.specs.Inner.{Placed}
 use Rattle.lists.specs.Tab.{tab, grid}
 use Rattle.lists.proofs.Tab.{length-tabFrom, tab-same, tab-add}
 use Rattle.lists.proofs.Grid.{tab-more, grid-more}

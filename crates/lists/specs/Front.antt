@@ -1,8 +1,7 @@
--- What a call writes into a slice that was lent to it: a list at its front, or from a place on. All else is as it was.
-use Prim.Native.Nat.{ℕ, _+_}
+-- What a call writes into a slice that was lent to it: a list at its front. All else is as it was.
 use mathlib.Core.Path.{_≡_}
 use mathlib.Core.List.{List, _++_}
-use lib.ListN.{length, take, drop}
+use lib.ListN.{length, drop}
 
 -- what was lent, with the list written over its front
 abbrev pub over : {A : Type 0} → List A → List A → List A
@@ -12,8 +11,3 @@ over list lent = list ++ drop (length list) lent
 pub record AtFront {A : Type 0} (list before after : List A) : Type 0 where
   pub len : length after ≡ length before
   pub is : after ≡ over list before
-
--- the list stands from the place `at` on, and all else is as it was
-pub record Placed {A : Type 0} (list : List A) (at : ℕ) (before after : List A) : Type 0 where
-  pub len : length after ≡ length before
-  pub is : after ≡ take at before ++ (list ++ drop (at + length list) before)

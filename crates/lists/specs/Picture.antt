@@ -13,6 +13,6 @@ flip a i j = a j i
 abbrev pub bit : Bool → ℕ
 bit b = cond b 1 0
 
--- the edge picture in a list of bytes: the point in row i and column j is the byte at i times `down` and j times `across`
+-- the picture in a list of bytes: the point in row i and column j is the byte at i·down + j·across, and it is set if that is 1
 unfoldable pub points : ℕ → ℕ → List ℕ → ℕ → ℕ → Bool
 points down across e i j = eqb (getD e (i * down + j * across) 0) 1

@@ -8,7 +8,7 @@ use lib.Ieee.{Float}
 use lib.ListN.{length}
 use Rattle.lists.proofs.Front.{front-none}
 use Rattle.board.specs.Board.{leastSide, sidesOutside, blank}
-use Rattle.board.specs.Planes.{SidesIn}
+use Rattle.board.specs.Inner.{SidesIn}
 use Rattle.board.proofs.Sides.{sides-in, passed}
 use Rattle.load.specs.declared.Loaded.{Loaded}
 use Rattle.load.specs.Load.{loadAnswer, LoadGives}

@@ -9,7 +9,8 @@ use lib.ListN.{length, getD, drop, length-append}
 use lib.Seq.{take-at, take-all}
 use Rattle.lists.specs.Front.{over}
 use Rattle.board.specs.Board.{leastSide}
-use Rattle.board.specs.Planes.{allUnits, SidesIn, FitPlanes}
+use Rattle.board.specs.Planes.{allUnits}
+use Rattle.board.specs.Inner.{SidesIn, FitPlanes}
 use Rattle.board.specs.Screen.{packed}
 use Rattle.board.proofs.Packed.{length-packed, packed-units}
 use Rattle.load.specs.Load.{shown}

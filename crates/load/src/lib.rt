@@ -7,7 +7,7 @@ ghost use Rattle.lists.specs.Front.{AtFront};
 ghost use Rattle.board.specs.Screen.{packed};
 ghost use Rattle.load.specs.Load as Spec;
 ghost use Rattle.load.specs.Load.{mostByte, shown, loadAnswer, LoadGives};
-ghost use Rattle.load.specs.Pixel.{Bytes, PixelAt};
+ghost use Rattle.load.specs.Inner.{Bytes, PixelAt};
 use board::Board;
 
 // A record and the answer: 0, or the number of the refusal.

@@ -8,11 +8,11 @@ use lib.Dec.{ltb}
 use lib.ListN.{length}
 use Rattle.board.specs.declared.Board.{Board}
 use Rattle.board.specs.Board.{leastSide}
-use Rattle.board.specs.Planes.{FitPlanes}
+use Rattle.board.specs.Inner.{FitPlanes}
 use Rattle.board.proofs.Sides.{neither}
 use Rattle.board.proofs.Planes.{planes-fit}
 use Rattle.locate.specs.Locate.{Lent, lent, slicesShort, checked}
-use Rattle.locate.specs.Steps.{NoneShort}
+use Rattle.locate.specs.Inner.{NoneShort}
 
 -- the planes play no part in whether another slice is short
 pub short-same : (h w : ℕ) (s : Lent)

@@ -12,11 +12,10 @@ use Rattle.bounds.specs.Bounds.{widen}
 use Rattle.bounds.proofs.Laws.{Wide}
 use Rattle.bounds.proofs.Laws as Laws
 use Rattle.narrowings.specs.declared.Narrowed.{Narrowed}
-use Rattle.strips.specs.Strip.{placeCount}
-use Rattle.strips.specs.Parts.{Scorable}
+use Rattle.strips.specs.Inner.{placeCount, Scorable}
 use Rattle.strips.proofs.Scores.{count-most}
-use Rattle.axes.specs.Axes.{RoomFor}
-use Rattle.locate.specs.Steps.{Leads}
+use Rattle.axes.specs.Inner.{RoomFor}
+use Rattle.locate.specs.Inner.{Leads}
 
 module _ {h w : ℕ} {l : Narrowed} {edges : List ℕ} {scores u8 u32 : ℕ} (g : Leads h w l edges scores u8 u32) where
   -- the first edge picture

@@ -1,48 +1,61 @@
 -- The promise follows from what locating gives. Assumes nothing.
-use Prim.Native.Nat.{ℕ, _+_, _<_}
-use mathlib.Core.Path.{_≡_, refl, _∙_}
-use mathlib.Core.Bool.{Bool, true, false, cond}
+use Prim.Native.Nat.{ℕ, _+_, _≤_, _<_}
+use mathlib.Core.Path.{_≡_, refl, sym, ap, _∙_}
+use mathlib.Core.Bool.{Bool, true, false, cond, false≢true}
 use mathlib.Core.List.{List, [], _++_}
 use native.Mathlib.Omega.{arith}
 use borrow.Author.Tests.{eqb-true, eqb-false}
 use lib.ListN.{length, getD, length-append, List·getD-append}
 use lib.Seq.{getD-append-add}
 use Rattle.lists.specs.Front.{AtFront}
-use Rattle.lists.proofs.Front.{front-within}
+use Rattle.lists.proofs.Front.{front-fits, front-within}
 use Rattle.board.specs.declared.Board.{Board}
 use Rattle.board.specs.Board.{resized}
-use Rattle.strips.specs.Strip.{places}
-use Rattle.strips.proofs.Scores.{count-is, length-scores}
+use Rattle.bounds.specs.Bounds.{BoundsIn}
 use Rattle.reading.specs.declared.Quarters.{Quarters}
 use Rattle.reading.specs.declared.Quarters.the-variants.{Read, Refused}
-use Rattle.reading.specs.Reading.{quartersOf}
-use Rattle.axes.specs.Axes.{Fits32}
+use Rattle.reading.specs.Reading.{gapAnswer, quartersOf}
+use Rattle.reading.proofs.Answers.{answerIn, quarters-answer}
+use Rattle.axes.specs.Inner.{Fits32}
 use Rattle.axes.proofs.Scoring.{scores-fit, quarters-fit}
-use Rattle.lines.specs.Lines.{InLimits}
+use Rattle.lines.specs.Lines.{linesOf}
+use Rattle.lines.specs.Inner.{InLimits}
 use Rattle.locate.specs.declared.Located.{Located}
 use Rattle.locate.specs.Reference.{Reference, columnAxis, rowAxis}
 use Rattle.locate.specs.Locate.{Lent, checked, passes, declined, joined, found, scoresOf, referenceFor, LocateGives}
-use Rattle.locate.specs.Promise.{Optimal, Promise}
+use Rattle.locate.specs.Promise.{Optimal, BoardFound, Promise}
 use Rattle.locate.proofs.Checks.{fit}
 use Rattle.locate.proofs.Scored.{Scored, scored, last-is}
-use Rattle.locate.proofs.Unbeaten.{unbeaten}
+use Rattle.locate.proofs.Unbeaten.{scores-long, unbeaten}
 
 module _ (g : Reference) (s : Scored g) where
-  columns-long : length (g .columns) ≡ length (places (g .bounds .«c_1») (g .bounds .«c_2»))
-  columns-long = rw (s .columns-are) (length-scores (g .picture) _ _ _ _ ∙ count-is (g .bounds .«c_1») (g .bounds .«c_2»))
-
-  rows-long : length (g .rows) ≡ length (places (g .bounds .«r_1») (g .bounds .«r_2»))
-  rows-long = rw (s .rows-are) (length-scores _ _ _ _ _ ∙ count-is (g .bounds .«r_1») (g .bounds .«r_2»))
-
   columns-fit : InLimits (g .columns)
   columns-fit =
-      rw (s .columns-are) (scores-fit (g .picture) _ _ _ _ (s .columns-wide) (omega (arith, s .columns-end)) (omega (arith, s .rows-end)))
+      let e = s .wide in
+      rw (s .columns-are)
+      (scores-fit (g .picture) _ _ _ _ (e .columns) (omega (arith, e .column-end, s .columns-end)) (omega (arith, e .row-end, s .rows-end)))
 
   rows-fit : InLimits (g .rows)
-  rows-fit = rw (s .rows-are) (scores-fit _ _ _ _ _ (s .rows-wide) (omega (arith, s .rows-end)) (omega (arith, s .columns-end)))
+  rows-fit =
+      let e = s .wide in
+      rw (s .rows-are)
+      (scores-fit _ _ _ _ _ (e .rows) (omega (arith, e .row-end, s .rows-end)) (omega (arith, e .column-end, s .columns-end)))
+
+  inside : BoundsIn (g .row) (g .column) (g .bounds)
+  inside =
+      let e = s .wide in
+      record {
+        «r_1» = omega (arith, e .rows, e .row-end);
+        «r_2» = e .row-end;
+        «c_1» = omega (arith, e .columns, e .column-end);
+        «c_2» = e .column-end;
+      }
 
   -- both readings were accepted
   module _ {before after : List ℕ} (x : AtFront (g .columns ++ g .rows) before after) where
+    room : length (g .columns) + length (g .rows) ≤ length after
+    room = omega (arith, front-fits x, length-append (g .columns) (g .rows))
+
     across-entry : (i : ℕ) → i < length (g .columns) → getD after i 0 ≡ getD (g .columns) i 0
     across-entry i l = front-within 0 i x (simp length-append (omega arith)) ∙ List·getD-append (g .columns) (g .rows) 0 i l
 
@@ -54,15 +67,19 @@ module _ (g : Reference) (s : Scored g) where
         → quartersOf (g .rows) ≡ Read q' offset' count' voted'
         → Optimal g (joined b n (g .bounds) (Read q offset count voted) (Read q' offset' count' voted')) after
     optimal b n q offset count voted q' offset' count' voted' across down =
+        let e = s .wide in
         record {
+          inside = inside;
+          whole = s .whole;
+          room = room;
           top-is = refl;
           left-is = refl;
           rows-are = rw down;
           columns-are = rw across;
-          across = unbeaten (columnAxis g) (s .columns-are) _ q offset count voted columns-fit
-              (λ i l. across-entry i (rw columns-long l)) across;
-          down = unbeaten (rowAxis g) (s .rows-are) _ q' offset' count' voted' rows-fit
-              (λ i l. down-entry i (rw rows-long l)) down;
+          columns-unbeaten = unbeaten (columnAxis g) (s .columns-are) (e .rows) (e .columns) _ q offset count voted columns-fit
+              (λ i l. across-entry i (rw (scores-long (columnAxis g) (s .columns-are) (e .rows) (e .columns)) l)) across;
+          rows-unbeaten = unbeaten (rowAxis g) (s .rows-are) (e .columns) (e .rows) _ q' offset' count' voted' rows-fit
+              (λ i l. down-entry i (rw (scores-long (rowAxis g) (s .rows-are) (e .columns) (e .rows)) l)) down;
         }
 
     -- by the readings: the answer is 0 only where both were accepted
@@ -74,25 +91,62 @@ module _ (g : Reference) (s : Scored g) where
     optimal-by b n (Read q offset count voted) (Read q' offset' count' voted') e f t z =
         optimal b n q offset count voted q' offset' count' voted' e f
 
--- what locating hands back where the checks passed and the answer is 0
-found-optimal : (b : Board) (g : Reference) (before after : List ℕ) → (g .last .tooSmall ≡ false → Scored g)
-    → AtFront (scoresOf g) before after
-    → found b g .answer ≡ 0 → Optimal g (found b g) after
-found-optimal b g before after s x z = go (g .last .tooSmall) refl x z
-  where
-    sized : Board
-    sized = resized b (g .last .stage .height) (g .last .stage .width)
+-- a list that is read has no refusal, and one that is refused has its own
+module _ (s : List ℕ) (f : InLimits s) where
+  read-fits : {q offset count voted : ℕ} → quartersOf s ≡ Read q offset count voted → gapAnswer (linesOf s) ≡ 0
+  read-fits e = sym (quarters-answer s) ∙ ap answerIn e
 
-    n : ℕ
-    n = g .last .stage .narrowed
+  refused-not : {n : ℕ} → quartersOf s ≡ Refused n → gapAnswer (linesOf s) ≡ 0 → ⊥
+  refused-not {n} e z =
+      let six : 6 ≤ n = (rw e at (quarters-fit s f)) .0 in
+      let is : n ≡ 0 = sym (ap answerIn e) ∙ (quarters-answer s ∙ z) in
+      omega (arith, six, is)
 
-    read : Located
-    read = joined sized n (g .bounds) (quartersOf (g .columns)) (quartersOf (g .rows))
+-- what locating hands back where the checks passed
+module _ (b : Board) (g : Reference) (s : g .last .tooSmall ≡ false → Scored g) where
+  abbrev sized : Board
+  sized = resized b (g .last .stage .height) (g .last .stage .width)
 
-    go : (t : Bool) → g .last .tooSmall ≡ t → AtFront (cond t [] (g .columns ++ g .rows)) before after
-        → cond t (declined sized 5 n) read .answer ≡ 0 → Optimal g (cond t (declined sized 5 n) read) after
-    go true e y w = absurd (omega arith)
-    go false e y w = optimal-by g (s e) y sized n _ _ refl refl (quarters-fit (g .columns) (columns-fit g (s e))) w
+  abbrev n : ℕ
+  n = g .last .stage .narrowed
+
+  abbrev read : Located
+  read = joined sized n (g .bounds) (quartersOf (g .columns)) (quartersOf (g .rows))
+
+  found-optimal : (before after : List ℕ) → AtFront (scoresOf g) before after → found b g .answer ≡ 0 → Optimal g (found b g) after
+  found-optimal before after x z = go (g .last .tooSmall) refl x z
+    where
+      go : (t : Bool) → g .last .tooSmall ≡ t → AtFront (cond t [] (g .columns ++ g .rows)) before after
+          → cond t (declined sized 5 n) read .answer ≡ 0 → Optimal g (cond t (declined sized 5 n) read) after
+      go true e y w = absurd (omega arith)
+      go false e y w = optimal-by g (s e) y sized n _ _ refl refl (quarters-fit (g .columns) (columns-fit g (s e))) w
+
+  -- the answer is 0 exactly where a board is found by the rules
+  module _ (large : g .last .tooSmall ≡ false) where
+    both : (columns rows : Quarters) → quartersOf (g .columns) ≡ columns → quartersOf (g .rows) ≡ rows
+        → (joined sized n (g .bounds) columns rows .answer ≡ 0 → BoardFound g)
+        × (BoardFound g → joined sized n (g .bounds) columns rows .answer ≡ 0)
+    both (Refused k) rows e f =
+        let six : 6 ≤ k = (rw e at (quarters-fit (g .columns) (columns-fit g (s large)))) .0 in
+        (λ z. absurd (omega (arith, six, z)), λ r. absurd (refused-not (g .columns) (columns-fit g (s large)) e (r .columns-read)))
+    both (Read q offset count voted) (Refused k) e f =
+        (λ z. absurd (omega (arith, z)), λ r. absurd (refused-not (g .rows) (rows-fit g (s large)) f (r .rows-read)))
+    both (Read q offset count voted) (Read q' offset' count' voted') e f = (
+      λ z. record {
+        large = large;
+        columns-read = read-fits (g .columns) (columns-fit g (s large)) e;
+        rows-read = read-fits (g .rows) (rows-fit g (s large)) f;
+      },
+      λ r. refl,
+    )
+
+  found-answer : (found b g .answer ≡ 0 → BoardFound g) × (BoardFound g → found b g .answer ≡ 0)
+  found-answer = go (g .last .tooSmall) refl
+    where
+      go : (t : Bool) → g .last .tooSmall ≡ t
+          → (cond t (declined sized 5 n) read .answer ≡ 0 → BoardFound g) × (BoardFound g → cond t (declined sized 5 n) read .answer ≡ 0)
+      go true e = (λ z. absurd (omega arith), λ r. absurd (false≢true (sym (r .large) ∙ e)))
+      go false e = both e _ _ refl refl
 
 pub promised : (b : Board) (before : Lent) (r : Located) (after : Lent) → LocateGives b before r after → Promise b before r after
 promised b before r after g = go (passes b before) refl (g .located-is) (g .scores-are)
@@ -108,8 +162,8 @@ promised b before r after g = go (passes b before) refl (g .located-is) (g .scor
         let s : ref .last .tooSmall ≡ false → Scored ref =
         λ q. scored (b .height) (b .width) (before .planes) f (rw (last-is (b .height) (b .width) (before .planes)) at q) in
         record {
-          answered = (λ a. (z, rw p at a), λ y a. rw p a);
-          optimal = λ a. rw p (found-optimal b ref (before .scores) (after .scores) s x (rw p at a));
+          answered = (λ a. (z, found-answer b ref s .0 (rw p at a)), λ y a. rw p (found-answer b ref s .1 a));
+          optimal = λ a. rw p (found-optimal b ref s (before .scores) (after .scores) x (rw p at a));
         }
     go false e p x =
         let n = eqb-false (checked b before) 0 e in

@@ -1,6 +1,6 @@
 -- The reference of a call whose loop of narrowings ended well: its bounds are wide and lie inside the pictures, and
 -- its lists are the bounds' scores. Assumes nothing.
-use Prim.Native.Nat.{ℕ, _+_, _-_, _≤_}
+use Prim.Native.Nat.{ℕ, _-_, _*_, _≤_}
 use mathlib.Core.Path.{_≡_, refl}
 use mathlib.Core.Bool.{false}
 use mathlib.Core.List.{List}
@@ -8,7 +8,8 @@ use native.Mathlib.Omega.{arith}
 use lib.Ieee.{Float}
 use lib.ListN.{length}
 use Rattle.board.specs.Board.{leastSide}
-use Rattle.board.specs.Planes.{FitPlanes}
+use Rattle.board.specs.Inner.{FitPlanes}
+use Rattle.edges.proofs.Laws.{length-edges}
 use Rattle.bounds.proofs.Laws.{Wide, within, wide}
 use Rattle.narrowings.specs.Loop.{Stage, first, pictureAt, boundsAt, thin, lastOf}
 use Rattle.narrowings.proofs.Turns.{by-three, Sound, spans, sound-around, last-sound}
@@ -16,10 +17,10 @@ use Rattle.strips.specs.Strip.{columnScores, rowScores}
 use Rattle.locate.specs.Reference.{Reference, referenceOf}
 
 pub record Scored (g : Reference) : Type 0 where
-  pub rows-wide : g .bounds .«r_1» + 4 ≤ g .bounds .«r_2»
-  pub columns-wide : g .bounds .«c_1» + 4 ≤ g .bounds .«c_2»
-  pub rows-end : g .bounds .«r_2» ≤ 4094
-  pub columns-end : g .bounds .«c_2» ≤ 4094
+  pub wide : Wide (g .row) (g .column) (g .bounds)
+  pub rows-end : g .row ≤ 4094
+  pub columns-end : g .column ≤ 4094
+  pub whole : length (g .edges) ≡ g .row * g .column
   pub columns-are : g .columns ≡ columnScores (g .picture) (g .bounds)
   pub rows-are : g .rows ≡ rowScores (g .picture) (g .bounds)
 
@@ -51,12 +52,16 @@ module _ (h w : ℕ) (planes : List Float) where
     unfolding referenceOf
     scored =
         let e = wide-enough in
-        let s = sound .fit .sides in
         record {
-          rows-wide = e .rows;
-          columns-wide = e .columns;
-          rows-end = omega (arith, e .row-end, s .high-h);
-          columns-end = omega (arith, e .column-end, s .high-w);
+          wide = record {
+            rows = e .rows;
+            row-end = omega (arith, e .row-end, sound .high-h);
+            columns = e .columns;
+            column-end = omega (arith, e .column-end, sound .high-w);
+          };
+          rows-end = omega (arith, f .sides .high-h);
+          columns-end = omega (arith, f .sides .high-w);
+          whole = length-edges h w planes;
           columns-are = refl;
           rows-are = refl;
         }

@@ -1,25 +1,46 @@
 -- One axis of the promise: an accepted reading of its scores is unbeaten. Assumes nothing.
-use Prim.Native.Nat.{ℕ, _<_}
-use mathlib.Core.Path.{_≡_, refl, _∙_}
+use Prim.Native.Nat.{ℕ, _+_, _≤_, _<_}
+use mathlib.Core.Path.{_≡_, refl, sym, ap, _∙_}
+use mathlib.Core.List.{List}
 use lib.ListN.{length, getD}
 use Rattle.lanes.specs.Score.{score}
 use Rattle.lanes.proofs.Walks.{no-better, attained}
 use Rattle.strips.specs.Strip.{places, scores}
-use Rattle.strips.proofs.Scores.{count-is, score-at, place-lane}
-use Rattle.lines.specs.Lines.{InLimits}
-use Rattle.reading.specs.declared.Quarters.the-variants.{Read}
-use Rattle.reading.specs.Reading.{pitchOf, quartersOf}
-use Rattle.reading.proofs.Laws.{won}
+use Rattle.strips.proofs.Scores.{count-is, place-count, length-scores, score-at, place-lane}
+use Rattle.lines.specs.Inner.{InLimits}
+use Rattle.reading.specs.declared.Quarters.{Quarters}
+use Rattle.reading.specs.declared.Quarters.the-variants.{Read, Refused}
+use Rattle.reading.specs.Reading.{remaining, pitchOf, quartersOf}
+use Rattle.reading.proofs.Laws.{by-outcome, won}
 use Rattle.locate.specs.Reference.{Axis}
 use Rattle.locate.specs.Promise.{Unbeaten, placeAt}
 
-module _ (a : Axis) (is : a .scores ≡ scores (a .picture) (a .from) (a .to) (a .low) (a .high)) where
+-- where a list is read, lines remain
+abbrev Lined : List ℕ → Quarters → Type 0
+Lined s (Read q offset count votes) = 0 < length (remaining s)
+Lined s (Refused n) = Unit
+
+lined : (s : List ℕ) → InLimits s → Lined s (quartersOf s)
+lined s f = by-outcome (Lined s) s f tt tt (λ r. r .some)
+
+module _ (a : Axis) (is : a .scores ≡ scores (a .picture) (a .from) (a .to) (a .low) (a .high))
+    (long : a .from + 4 ≤ a .to) (wide : a .low + 4 ≤ a .high) where
+  -- a score for each place
+  pub scores-long : length (a .scores) ≡ length (places (a .low) (a .high))
+  scores-long = ap length is ∙ length-scores (a .picture) _ _ _ _ ∙ count-is (a .low) (a .high)
+
   pub unbeaten : (entry : ℕ → ℕ) (q offset count voted : ℕ) → InLimits (a .scores)
       → ((i : ℕ) → i < length (places (a .low) (a .high)) → entry i ≡ getD (a .scores) i 0)
       → quartersOf (a .scores) ≡ Read q offset count voted
       → Unbeaten a (record { score = entry; offset = offset; quarter = q; votes = voted; pitch = pitchOf q })
   unbeaten entry q offset count voted fit same e =
       record {
+        long = long;
+        span = wide;
+        counted = scores-long ∙ sym (count-is (a .low) (a .high)) ∙ place-count (a .low) (a .high) wide;
+        placed = sym scores-long;
+        handed = λ i l. same i (rw scores-long at l);
+        lined = rw e at (lined (a .scores) fit);
         bounded = λ i l walk w. rw (here i l) (no-better (a .picture) (a .from) (a .to) (placeAt a i) walk w);
         attained = λ i l. rw (here i l) (attained (a .picture) (a .from) (a .to) (placeAt a i) (place-lane (a .low) (a .high) i));
         wins = rw e at (won (a .scores) fit);

@@ -11,20 +11,20 @@ use Rattle.lists.proofs.Front.{front-none}
 use Rattle.board.specs.declared.Board.{Board}
 use Rattle.board.specs.declared.Bounds.{Bounds}
 use Rattle.board.specs.Board.{leastSide, resized}
-use Rattle.board.specs.Planes.{FitPlanes}
+use Rattle.board.specs.Inner.{FitPlanes}
 use Rattle.edges.specs.Edges.{edges}
 use Rattle.edges.proofs.Laws.{edge-le}
 use Rattle.bounds.proofs.Laws as Bounds
 use Rattle.narrowings.specs.declared.Narrowed.{Narrowed}
 use Rattle.narrowings.specs.Loop.{first, boundsAt, Last, lastOf}
-use Rattle.narrowings.specs.Steps.{Looks, Narrows}
+use Rattle.narrowings.specs.Inner.{Looks, Narrows}
 use Rattle.narrowings.proofs.Looking.{edges-in, edges-part}
 use Rattle.narrowings.proofs.Turns.{spans, sound-around}
 use Rattle.locate.specs.declared.Located.{Located}
 use Rattle.locate.specs.Reference.{referenceOf}
 use Rattle.locate.specs.Locate.{Lent, lent, checked, passes, declined, referenceFor, LocateGives}
 use Rattle.locate.specs.Promise.{Promise}
-use Rattle.locate.specs.Steps.{NoneShort, Leads, ReadsFrom, Works}
+use Rattle.locate.specs.Inner.{NoneShort, Leads, ReadsFrom, Works}
 use Rattle.locate.proofs.Promises.{promised}
 use Rattle.locate.proofs.Scored.{sound, not-thin}
 
@@ -148,8 +148,8 @@ module _ (b : Board) (before : Lent) {r : Located} where
         planes-are = rw f (rw (p, p') at (k .planes-are));
         edges-are = rw f (rw (p, q, q') at (k .edges-are));
         scores-are = rw f (rw (p, s, s') at (k .scores-are));
-        f32-kept = t .f32-kept;
-        u8-kept = t .u8-kept;
-        u32-kept = t .u32-kept;
+        f32-kept = rw f (t .f32-kept);
+        u8-kept = rw f (t .u8-kept);
+        u32-kept = rw f (t .u32-kept);
       } in
       (g, promised b before r after g)

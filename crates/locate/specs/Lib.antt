@@ -1,4 +1,4 @@
 pub mod Reference
 pub mod Locate
 pub mod Promise
-pub mod Steps
+pub mod Inner

@@ -95,13 +95,17 @@ scoresOf g = cond (g .last .tooSmall) [] (g .columns ++ g .rows)
 abbrev pub referenceFor : Board → Lent → Reference
 referenceFor b s = referenceOf (b .height) (b .width) (s .planes)
 
--- What a call answers and leaves. Where the checks refuse, the record and all slices but scratch are as given. Scratch
--- is free up to 01's lengths; entries further on keep their content.
+-- how much of a scratch slice is free afterwards: what 01 asks for, and nothing where the checks refuse
+abbrev pub freed : Board → Lent → ℕ → ℕ
+freed b s n = cond (passes b s) n 0
+
+-- What a call answers and leaves. Where the checks refuse, the record and all slices are as given. Scratch is free up to 01's lengths;
+-- entries further on keep their content.
 pub record LocateGives (b : Board) (before : Lent) (r : Located) (after : Lent) : Type 0 where
   pub located-is : r ≡ cond (passes b before) (found b (referenceFor b before)) (declined b (checked b before) 0)
   pub planes-are : after .planes ≡ cond (passes b before) (referenceFor b before .last .stage .planes) (before .planes)
   pub edges-are : AtFront (cond (passes b before) (referenceFor b before .edges) []) (before .edges) (after .edges)
   pub scores-are : AtFront (cond (passes b before) (scoresOf (referenceFor b before)) []) (before .scores) (after .scores)
-  pub f32-kept : drop (b .height * b .width) (after .scratch-f32) ≡ drop (b .height * b .width) (before .scratch-f32)
-  pub u8-kept : drop (b .height * b .width) (after .scratch-u8) ≡ drop (b .height * b .width) (before .scratch-u8)
-  pub u32-kept : drop (4 * (b .height + b .width)) (after .scratch-u32) ≡ drop (4 * (b .height + b .width)) (before .scratch-u32)
+  pub f32-kept : let n = freed b before (b .height * b .width) in drop n (after .scratch-f32) ≡ drop n (before .scratch-f32)
+  pub u8-kept : let n = freed b before (b .height * b .width) in drop n (after .scratch-u8) ≡ drop n (before .scratch-u8)
+  pub u32-kept : let n = freed b before (4 * (b .height + b .width)) in drop n (after .scratch-u32) ≡ drop n (before .scratch-u32)

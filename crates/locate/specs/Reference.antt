@@ -12,7 +12,9 @@ use Rattle.strips.specs.Strip.{columnScores, rowScores}
 pub record Reference : Type 0 where
   -- where the loop of narrowings ends
   pub last : Last
-  -- the edge picture that is scored, as bytes and as a picture
+  -- the edge picture that is scored: its rows and columns, its bytes, and the picture that they hold
+  pub row : ℕ
+  pub column : ℕ
   pub edges : List ℕ
   pub picture : ℕ → ℕ → Bool
   -- the last bounds, widened on it
@@ -21,7 +23,8 @@ pub record Reference : Type 0 where
   pub columns : List ℕ
   pub rows : List ℕ
 
--- All steps below the loop use the first edge picture with the last bounds. Screens are narrowed by 3.
+-- All steps below the loop use the first edge picture with the last bounds; the widening's rows, columns and thirds are the last picture's
+-- too. Screens are narrowed by 3.
 unfoldable pub referenceOf : ℕ → ℕ → List Float → Reference
 unfolding lastOf
 referenceOf h w planes =
@@ -31,6 +34,8 @@ referenceOf h w planes =
     let b = widen (pictureAt scored) (l .height - 2) (l .width - 2) (boundsAt l) in
     record {
       last = last;
+      row = scored .height - 2;
+      column = scored .width - 2;
       edges = edgesAt scored;
       picture = pictureAt scored;
       bounds = b;

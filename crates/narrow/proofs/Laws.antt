@@ -12,7 +12,8 @@ use Rattle.lists.proofs.Tab.{length-tabFrom, getD-tab}
 use Rattle.lists.proofs.Grid.{row-column}
 use Rattle.rank.proofs.Members.{entry-has}
 use Rattle.board.specs.Screen.{packed, view}
-use Rattle.board.specs.Planes.{allUnits, FitPlanes}
+use Rattle.board.specs.Planes.{allUnits}
+use Rattle.board.specs.Inner.{FitPlanes}
 use Rattle.board.proofs.Packed.{length-packed, packed-units}
 use Rattle.narrow.specs.Narrow.{block, median, narrowed, narrow}
 use Rattle.narrow.proofs.Block.{IsUnit, unit-at, block-lt}

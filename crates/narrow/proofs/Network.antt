@@ -13,12 +13,13 @@ use lib.Ieee.{Float, nan, binary32, fits, ofBits, toBits}
 use lib.Ieee.Bits.{ofBits-toBits}
 use lib.ListN.{length}
 use Rattle.lists.specs.Tab.{grid}
-use Rattle.rank.specs.Rank.{atMost, countAtMost}
+use Rattle.rank.specs.Inner.{atMost, countAtMost}
 use Rattle.lists.proofs.Count.{count-le}
 use Rattle.rank.proofs.Entry.{entry-key, entry-leb}
 use Rattle.rank.proofs.Members.{Each, entry-each}
 use Rattle.board.proofs.Sides.{both}
-use Rattle.binary32.specs.Binary32.{larger, lesser}
+use Rattle.binary32.specs.Binary32.{larger}
+use Rattle.binary32.specs.Inner.{lesser}
 use Rattle.binary32.proofs.Values.{T-of}
 use Rattle.binary32.proofs.Units.{IsUnit, lesser-bits, larger-bits, lesser-unit, larger-unit}
 use Rattle.board.specs.Planes.{allUnits}

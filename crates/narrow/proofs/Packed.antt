@@ -13,7 +13,7 @@ use Rattle.lists.proofs.Front.{front-behind}
 use Rattle.lists.proofs.Grid.{row-fits, grid-more}
 use Rattle.board.specs.Screen.{Screen}
 use Rattle.board.proofs.Packed.{planeRows}
-use Rattle.narrow.specs.Three.{rowOf}
+use Rattle.narrow.specs.Inner.{rowOf}
 
 -- one row more, in a part that was lent from there on
 pub next-row : (s : Screen) (r : ℕ) {lent out row : List Float} → AtFront (grid r (s .width) (planeRows s)) lent out

@@ -1,5 +1,5 @@
 // Narrowing (01, "Narrowing"): each plane point becomes the fifth smallest of its 3 by 3 block. Definitions: specs/Narrow, over the factor;
-// specs/Three is for the inner functions. Laws for callers: proofs/Laws. It asks for planes that are fit, of any sides up to the
+// specs/Inner is for the inner functions. Laws for callers: proofs/Laws. It asks for planes that are fit, of any sides up to the
 // largest: the order of units is that of their bits, so that it can pick by comparison.
 ghost use mathlib.Core.Path.{_≡_};
 ghost use mathlib.Core.Bool.{true};
@@ -8,10 +8,11 @@ ghost use Prim.Native.Nat.{_+_, _*_, _/_, _<_, _≤_};
 ghost use lib.ListN.{length, drop};
 ghost use Rattle.lists.specs.Front.{AtFront};
 ghost use Rattle.board.specs.Screen.{view, packed};
-ghost use Rattle.board.specs.Planes.{allUnits, FitPlanes};
+ghost use Rattle.board.specs.Planes.{allUnits};
+ghost use Rattle.board.specs.Inner.{FitPlanes};
 ghost use Rattle.narrow.specs.Narrow as Spec;
 ghost use Rattle.narrow.specs.Narrow.{ranked, median, narrowed};
-ghost use Rattle.narrow.specs.Three.{neighbours, risingAt, rowOf};
+ghost use Rattle.narrow.specs.Inner.{neighbours, risingAt, rowOf};
 
 // Three values sorted rising.
 struct Rising {

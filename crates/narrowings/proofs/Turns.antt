@@ -12,14 +12,14 @@ use lib.Ieee.{Float}
 use lib.ListN.{length}
 use Rattle.board.specs.declared.Bounds.{Bounds}
 use Rattle.board.specs.Board.{leastSide}
-use Rattle.board.specs.Planes.{FitPlanes}
+use Rattle.board.specs.Inner.{FitPlanes}
 use Rattle.board.proofs.Planes.{fit-lower}
 use Rattle.board.proofs.Sides.{neither}
 use Rattle.narrow.specs.Narrow.{narrow}
 use Rattle.narrow.proofs.Laws.{smaller, narrow-length, narrow-fit}
 use Rattle.bounds.proofs.Laws.{Around, around}
 use Rattle.narrowings.specs.Loop.{Stage, staged, first, pictureAt, boundsAt, thin, small, next, Last, oneTurn, looped, lastOf}
-use Rattle.narrowings.specs.Steps.{Narrows}
+use Rattle.narrowings.specs.Inner.{Narrows}
 
 -- a picture that is not small
 pub large : (h w : ℕ) → small h w ≡ false → (67 ≤ h) × (67 ≤ w)

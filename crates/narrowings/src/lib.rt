@@ -5,10 +5,10 @@ ghost use mathlib.Core.Path.{_≡_};
 ghost use Prim.Native.Nat.{_*_, _≤_};
 ghost use lib.ListN.{length};
 ghost use Rattle.board.specs.Board.{leastPlaneSide, leastSide};
-ghost use Rattle.board.specs.Planes.{FitPlanes};
+ghost use Rattle.board.specs.Inner.{FitPlanes};
 ghost use Rattle.narrowings.specs.Loop as Spec;
 ghost use Rattle.narrowings.specs.Loop.{first, boundsAt, lastOf};
-ghost use Rattle.narrowings.specs.Steps.{Looks, Narrows};
+ghost use Rattle.narrowings.specs.Inner.{Looks, Narrows};
 use board::Bounds;
 
 // Row or column of a screen that is too small is at most this.

@@ -5,7 +5,7 @@ use mathlib.Core.List.{List, [], _∷_}
 use native.Mathlib.Omega.{arith}
 use borrow.Author.Tests.{le-leb}
 use lib.ListN.{length, getD}
-use Rattle.rank.specs.Rank.{countAtMost}
+use Rattle.rank.specs.Inner.{countAtMost}
 
 pub count-all : {A : Type 0} (key : A → ℕ) (v : ℕ) (l : List A) (d : A) → ((k : ℕ) → k < length l → key (getD l k d) ≤ v)
     → countAtMost key v l ≡ length l

@@ -8,7 +8,8 @@ use native.Mathlib.Omega.{arith}
 use borrow.Author.Tests.{leb-true, le-leb, lt-leb, lt-ltb, ltb-true, ltb-false}
 use lib.Dec.{leb, ltb}
 use lib.ListN.{length, List·getD-eq-default}
-use Rattle.rank.specs.Rank.{sort, entry, countAtMost}
+use Rattle.rank.specs.Rank.{sort, entry}
+use Rattle.rank.specs.Inner.{countAtMost}
 use Rattle.rank.proofs.Members.{length-sort}
 use Rattle.rank.proofs.Sorted.{sorted-sort, count-sort, above, below}
 

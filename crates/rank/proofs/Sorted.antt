@@ -7,7 +7,8 @@ use native.Mathlib.Omega.{arith}
 use borrow.Author.Tests.{leb-true, leb-false, le-leb, lt-leb}
 use lib.ListN.{length, getD}
 use lib.Dec.{leb}
-use Rattle.rank.specs.Rank.{insert, sort, countAtMost}
+use Rattle.rank.specs.Rank.{insert, sort}
+use Rattle.rank.specs.Inner.{countAtMost}
 use Rattle.rank.proofs.Members.{Each, each-at, each-insert}
 
 module _ {A : Type 0} (key : A → ℕ) where

@@ -1,11 +1,10 @@
 -- Entry j of a list sorted rising (01, "Gradient and threshold", "Narrowing" and "Lines and votes"), j counted from 0.
 -- One definition serves values of any kind by a key: binary32 values by their bits, scores by themselves.
 use Prim.Native.Nat.{ℕ}
-use mathlib.Core.Bool.{Bool, cond}
+use mathlib.Core.Bool.{cond}
 use mathlib.Core.List.{List, [], _∷_}
 use lib.ListN.{getD}
 use lib.Dec.{leb}
-use Rattle.lists.specs.Count.{count}
 
 -- the key of a whole number is the number
 abbrev pub self : ℕ → ℕ
@@ -24,10 +23,3 @@ module _ {A : Type 0} (key : A → ℕ) where
   -- entry j of the sorted list, and d where the list is too short
   unfoldable pub entry : A → List A → ℕ → A
   entry d l j = getD (sort l) j d
-
-  abbrev pub atMost : ℕ → A → Bool
-  atMost v x = leb (key x) v
-
-  -- how many entries have a key of at most v
-  abbrev pub countAtMost : ℕ → List A → ℕ
-  countAtMost v l = count (atMost v) l

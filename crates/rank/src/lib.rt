@@ -3,7 +3,8 @@
 ghost use mathlib.Core.Path.{_≡_};
 ghost use Prim.Native.Nat.{_≤_, _^_};
 ghost use lib.ListN.{length};
-ghost use Rattle.rank.specs.Rank.{countAtMost, self, entry};
+ghost use Rattle.rank.specs.Rank.{self, entry};
+ghost use Rattle.rank.specs.Inner.{countAtMost};
 
 // Entry j of s sorted rising, where no entry is above `most`; 0 where there is no entry j. It halves the range of values.
 pub fn entry_of(s: &[u32], j: usize, most: u32) -> u32

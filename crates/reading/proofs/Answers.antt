@@ -1,16 +1,19 @@
 -- Each answer of the definitions by the facts that lead to it, and what an answer of 0 shows. Assumes nothing.
 use Prim.Native.Nat.{ℕ, _*_, _≤_, _<_}
-use mathlib.Core.Path.{_≡_, refl}
+use mathlib.Core.Path.{_≡_, refl, sym, ap, _∙_}
 use mathlib.Core.Bool.{Bool, true, false, cond, _||_}
 use mathlib.Core.List.{List}
 use native.Mathlib.Omega.{arith}
-use borrow.Author.Tests.{eq-eqb, ne-eqb, le-leb, lt-leb, lt-ltb, le-ltb, ltb-false}
-use lib.Dec.{ltb}
-use lib.ListN.{length}
-use Rattle.lines.specs.Lines.{largest, InLimits, linesOf, wideGaps, estimate}
+use borrow.Author.Tests.{eq-eqb, ne-eqb, eqb-true, le-leb, lt-leb, lt-ltb, le-ltb, ltb-false}
+use lib.Dec.{ltb, eqb}
+use lib.ListN.{length, drop}
+use Rattle.lines.specs.Lines.{largest, linesOf, wideGaps, estimate}
+use Rattle.lines.specs.Inner.{InLimits}
+use Rattle.reading.specs.declared.Reading.{Reading}
 use Rattle.reading.specs.declared.Reading.the-variants as Of
+use Rattle.reading.specs.declared.Quarters.{Quarters}
 use Rattle.reading.specs.declared.Quarters.the-variants as In
-use Rattle.reading.specs.Reading.{remaining, accepted, gapAnswer, quartersOf, pitched, lineAnswer, readingOf}
+use Rattle.reading.specs.Reading.{remaining, accepted, gapAnswer, quartersOf, pitched, lineAnswer, readingOf, lineOf, answerOf, LineGives}
 
 -- ---- what the lines call for
 
@@ -33,6 +36,19 @@ module _ (s : List ℕ) where
   pub read-on : gapAnswer (linesOf s) ≡ 0 → accepted (estimate (linesOf s)) (remaining s) ≡ quartersOf s
   unfolding quartersOf
   read-on e = rw e
+
+-- the number of what a list reads as
+abbrev pub answerIn : Quarters → ℕ
+answerIn (In.Read q offset count votes) = 0
+answerIn (In.Refused n) = n
+
+pub quarters-answer : (s : List ℕ) → answerIn (quartersOf s) ≡ gapAnswer (linesOf s)
+unfolding quartersOf
+quarters-answer s = go (eqb (gapAnswer (linesOf s)) 0) refl
+  where
+    go : (t : Bool) → eqb (gapAnswer (linesOf s)) 0 ≡ t → answerIn (quartersOf s) ≡ gapAnswer (linesOf s)
+    go true p = rw p (sym (eqb-true (gapAnswer (linesOf s)) 0 p))
+    go false p = rw p
 
 -- ---- what comes before the lines
 
@@ -78,3 +94,20 @@ module _ (s : List ℕ) (room : ℕ) where
   pub taken : lineAnswer s room ≡ 0 → pitched (quartersOf s) ≡ readingOf s room
   unfolding readingOf
   taken e = rw e
+
+  -- the number of a reading
+  reading-answer : lineOf (readingOf s room) .answer ≡ answerOf s room
+  unfolding readingOf quartersOf
+  reading-answer = go (eqb (lineAnswer s room) 0) refl (eqb (gapAnswer (linesOf s)) 0) refl
+    where
+      go : (a : Bool) → eqb (lineAnswer s room) 0 ≡ a → (b : Bool) → eqb (gapAnswer (linesOf s)) 0 ≡ b
+          → lineOf (readingOf s room) .answer ≡ answerOf s room
+      go true p true q = rw (p, q) (sym (eqb-true (gapAnswer (linesOf s)) 0 q))
+      go true p false q = rw (p, q)
+      go false p b q = rw p
+
+-- a reading as number and values
+pub line-gives : (s before : List ℕ) {r : Reading} {after : List ℕ} → r ≡ readingOf s (length before)
+    → drop (4 * length s) after ≡ drop (4 * length s) before → LineGives s before (lineOf r) after
+line-gives s before e k =
+    record { answer-is = ap (λ (r : Reading). lineOf r .answer) e ∙ reading-answer s (length before); line-is = ap lineOf e; kept = k }

@@ -10,7 +10,8 @@ use lib.Dec.{eqb, leb, ltb}
 use lib.ListN.{length, getD, take, drop, List·getD-eq-default}
 use Rattle.lists.specs.Front.{AtFront}
 use Rattle.lists.proofs.Front.{front-fits, front-inner}
-use Rattle.lines.specs.Lines.{InLimits, linesOf, wideGaps, estimate, Remains}
+use Rattle.lines.specs.Lines.{linesOf, wideGaps, estimate}
+use Rattle.lines.specs.Inner.{InLimits, Remains}
 use Rattle.lines.proofs.Laws.{kept}
 use Rattle.lines.proofs.Rising.{Rising, rising-at, rising-length}
 use Rattle.votes.specs.Votes.{Wins, winner}
@@ -19,7 +20,8 @@ use Rattle.reading.specs.declared.Quarters.{Quarters}
 use Rattle.reading.specs.declared.Quarters.the-variants as In
 use Rattle.reading.specs.declared.Remaining.{Remaining}
 use Rattle.reading.specs.declared.Remaining.the-variants as Found
-use Rattle.reading.specs.Reading.{remaining, accepted, gapAnswer, quartersOf, Readable, Standing, RemainingGives, Pitched}
+use Rattle.reading.specs.Reading.{remaining, accepted, gapAnswer, quartersOf}
+use Rattle.reading.specs.Inner.{Readable, Standing, RemainingGives, Pitched}
 use Rattle.reading.proofs.Answers.{gap-fits, read-on}
 
 low-at : (n : ℕ) (l : List ℕ) → n ≤ 4096 → Rising 0 n l → (k : ℕ) → getD l k 0 ≤ 4095

@@ -1,18 +1,17 @@
 -- 01, "Lines and votes" and the refusals of line reading: what a list of scores reads as.
-use Prim.Native.Nat.{ℕ, _+_, _-_, _*_, _≤_, _<_}
+use Prim.Native.Nat.{ℕ, _+_, _-_, _*_}
 use mathlib.Core.Path.{_≡_}
 use mathlib.Core.Bool.{cond, _||_}
 use mathlib.Core.List.{List}
 use lib.Dec.{leb, ltb, eqb}
 use lib.Ieee.{Float, binary32, div, ofBits}
-use lib.ListN.{length, getD, take, drop}
+use lib.ListN.{length, getD, drop}
 use Rattle.binary32.specs.Binary32.{float, trunc}
 use Rattle.reading.specs.declared.Reading.{Reading}
 use Rattle.reading.specs.declared.Reading.the-variants as Of
 use Rattle.reading.specs.declared.Quarters.{Quarters}
 use Rattle.reading.specs.declared.Quarters.the-variants as In
-use Rattle.reading.specs.declared.Remaining.{Remaining}
-use Rattle.reading.specs.declared.Remaining.the-variants as Found
+use Rattle.reading.specs.declared.Line.{Line}
 use Rattle.lines.specs.Lines.{largest, linesOf, wideGaps, estimate, dropFirst, dropLast}
 use Rattle.votes.specs.Votes.{winner}
 
@@ -61,38 +60,19 @@ readingOf s scratch =
     let answer = lineAnswer s scratch in
     cond (eqb answer 0) (pitched (quartersOf s)) (Of.Refused answer)
 
--- of the scratch what lies beyond four entries for each score is as it was
-abbrev pub KeptBeyond : List ℕ → List ℕ → List ℕ → Type 0
-KeptBeyond s before after = drop (4 * length s) after ≡ drop (4 * length s) before
+-- 01's number and values for each of the two: the values of a refusal are zeros
+abbrev pub lineOf : Reading → Line
+lineOf (Of.Read pitch offset count votes) = record { answer = 0; pitch = pitch; offset = offset; count = count; votes = votes }
+lineOf (Of.Refused n) = record { answer = n; pitch = ofBits binary32 0; offset = 0; count = 0; votes = 0 }
 
--- ---- for the contracts inside
+-- the number that a call answers: the refusals in 01's order, else 0
+abbrev pub answerOf : List ℕ → ℕ → ℕ
+answerOf s scratch =
+    let answer = lineAnswer s scratch in
+    cond (eqb answer 0) (gapAnswer (linesOf s)) answer
 
--- what the search asks of e, of the lines that remain, and of the row
-pub record Readable (e : ℕ) (lines : List ℕ) (room : ℕ) : Type 0 where
-  pub low : 6 ≤ e
-  pub high : e < 206
-  pub some : 0 < length lines
-  pub few : length lines ≤ 4096
-  pub entries : (k : ℕ) → getD lines k 0 ≤ 4095
-  pub rising : getD lines 0 0 ≤ getD lines (length lines - 1) 0
-  pub row : getD lines 0 0 + 8 ≤ room
-
--- the lines that remain of s stand in the array from `from` up to `end`, e is that of all lines, and a row as long as four times s
--- is enough to search them
-pub record Standing (s array : List ℕ) (from end e : ℕ) : Type 0 where
-  pub answer : gapAnswer (linesOf s) ≡ 0
-  pub rising : from ≤ end
-  pub inside : end ≤ length array
-  pub lines : take (end - from) (drop from array) ≡ remaining s
-  pub gap : e ≡ estimate (linesOf s)
-  pub readable : Readable e (remaining s) (4 * length s)
-
--- what `remaining_of` hands back: a refusal exactly where the lines call for one
-abbrev pub RemainingGives : List ℕ → Remaining → List ℕ → Type 0
-RemainingGives s (Found.Lines from end e) array = Standing s array from end e
-RemainingGives s (Found.Refused n) array = (n ≡ gapAnswer (linesOf s)) × (0 < n)
-
--- a pitch of at most 200, which `pitched_of` asks for
-abbrev pub Pitched : Quarters → Type 0
-Pitched (In.Read q offset count votes) = q ≤ 800
-Pitched (In.Refused n) = Unit
+-- what a call hands over, as number and values, and what it leaves of the scratch: beyond four entries for each score all is as it was
+pub record LineGives (s before : List ℕ) (r : Line) (after : List ℕ) : Type 0 where
+  pub answer-is : r .answer ≡ answerOf s (length before)
+  pub line-is : r ≡ lineOf (readingOf s (length before))
+  pub kept : drop (4 * length s) after ≡ drop (4 * length s) before

@@ -1,11 +1,12 @@
-// What a list of scores reads as (01, "Lines and votes"; refusals: "How each operation declines"). Definitions: specs/Reading.
+// What a list of scores reads as (01, "Lines and votes"; refusals: "How each operation declines"). Definitions: specs/Reading;
+// specs/Inner has those of the code alone.
 // Laws for callers: proofs/Laws (an accepted reading has the winner of the remaining lines, and its pitch is at most 200).
 ghost use mathlib.Core.Path.{_≡_};
 ghost use Prim.Native.Nat.{ℕ, _+_, _-_, _*_, _≤_, _<_};
 ghost use lib.ListN.{length, getD};
-ghost use Rattle.lines.specs.Lines.{InLimits};
-ghost use Rattle.reading.specs.Reading.{pitchOf, countOf, accepted, quartersOf, pitched, lineAnswer, readingOf, KeptBeyond};
-ghost use Rattle.reading.specs.Reading.{Readable, RemainingGives, Pitched};
+ghost use Rattle.lines.specs.Inner.{InLimits};
+ghost use Rattle.reading.specs.Reading.{pitchOf, countOf, accepted, quartersOf, pitched, lineAnswer, readingOf, lineOf, LineGives};
+ghost use Rattle.reading.specs.Inner.{Readable, RemainingGives, Pitched};
 
 // A pitch with an offset, a count and the votes, or a refusal.
 pub enum Reading {
@@ -18,7 +19,17 @@ pub enum Reading {
     Refused(u32),
 }
 
-// The same with the pitch in quarters.
+// A reading as number and values, as C has it: zeros unless the answer is 0.
+#[repr(C)]
+pub struct Line {
+    pub answer: u32,
+    pub pitch: f32,
+    pub offset: usize,
+    pub count: usize,
+    pub votes: usize,
+}
+
+// The reading with the pitch in quarters.
 pub enum Quarters {
     Read {
         quarter: usize,
@@ -150,10 +161,10 @@ fn line_answer(list: &[u32], scratch: usize) -> u32
     0
 }
 
-// The scratch that is lent beyond 4·L entries is kept.
+// The reading, and the number and values that it stands for. The scratch that is lent beyond 4·L entries is kept.
 pub fn get_line(list: &[u32], scratch: &mut [u32]) -> Reading
     ensures reads { λ r. ⌜ r ≡ readingOf (now (list .entry)) (length (now (scratch .entry))) ⌝ }
-    ensures kept { λ _. ⌜ KeptBeyond (now (list .entry)) (now (scratch .entry)) (now (scratch .exit)) ⌝ }
+    ensures gives { λ r. ⌜ LineGives (now (list .entry)) (now (scratch .entry)) (lineOf r) (now (scratch .exit)) ⌝ }
 {
     let len = scratch.len();
     let answer = line_answer(list, len);

@@ -1,4 +1,5 @@
 // Replays a fixed list of the Rust's answers: what it prints is held to the file stdout, which the Rust made (scripts/answers load).
+// The planes are handed out channel by channel.
 use libc::STDOUT_FILENO;
 
 // A number in a line of its own.
@@ -24,9 +25,10 @@ fn drawn() -> [u8; 1024] {
     pixels
 }
 
-fn show(planes: &[f32]) {
-    for k in 0..planes.len() {
-        line(bits(planes[k]));
+// The values of one plane, or of none.
+fn show(plane: &[f32]) {
+    for n in 0..plane.len() {
+        line(bits(plane[n]));
     }
 }
 
@@ -39,5 +41,9 @@ fn main() {
         line(loaded.answer);
         return;
     }
-    show(&planes);
+    show(board::channel(16, 16, &planes, 0));
+    show(board::channel(16, 16, &planes, 1));
+    show(board::channel(16, 16, &planes, 2));
+    // No plane: an empty part, which adds no line.
+    show(board::channel(16, 16, &planes, 3));
 }

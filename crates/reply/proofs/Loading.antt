@@ -10,7 +10,7 @@ use lib.ListN.{length, getD}
 use Rattle.lists.proofs.Front.{front-all}
 use Rattle.board.specs.Board.{leastSide, sidesOutside, fresh}
 use Rattle.board.specs.Screen.{packed}
-use Rattle.board.specs.Planes.{FitPlanes}
+use Rattle.board.specs.Inner.{FitPlanes}
 use Rattle.board.proofs.Packed.{length-packed}
 use Rattle.board.proofs.Sides.{passed, sides-in}
 use Rattle.load.specs.declared.Loaded.{Loaded}

@@ -11,22 +11,25 @@ use lib.Ieee.{Float, binary32, ofBits}
 use lib.ListN.{length, getD, take, drop, replicate, length-append, length-replicate}
 use lib.Seq.{length-take-le, take-at}
 use Rattle.board.specs.Board.{leastSide, fresh}
-use Rattle.board.specs.Planes.{FitPlanes}
+use Rattle.board.specs.Inner.{FitPlanes}
 use Rattle.load.specs.declared.Loaded.{Loaded}
 use Rattle.load.specs.Load.{mostByte, loadAnswer, LoadGives}
 use Rattle.locate.specs.declared.Located.{Located}
 use Rattle.locate.specs.Locate.{foundIn}
 use Rattle.reply.specs.Values.{located, alone}
 use Rattle.header.specs.declared.Input.the-variants.{Sides, Refused}
-use Rattle.header.specs.Header.{headerOf}
+use Rattle.header.specs.Header.{mostShown, headerOf}
 use Rattle.reply.specs.Answer.{valuesOf, valuesFor, answerTo}
 use Rattle.reply.proofs.Loading.{planesOf, planes-length, answer-is, planes-are, board-is, planes-fit}
-use Rattle.reply.proofs.Locating.{area}
+use Rattle.reply.proofs.Locating.{mostArea, area}
 
--- planes of the screen's size are lent from 12,288 zeros
-pub size : {h w : ℕ} → h ≤ 64 → w ≤ 64 → length (take (3 * (h * w)) (replicate 12288 (ofBits binary32 0))) ≡ 3 * (h * w)
-size {h} {w} a b =
-    length-take-le (3 * (h * w)) (replicate 12288 (ofBits binary32 0)) (omega (arith, area a b, length-replicate 12288 (ofBits binary32 0)))
+-- as many zeros as the planes of the largest screen
+abbrev zeros : List Float
+zeros = replicate (3 * mostArea) (ofBits binary32 0)
+
+-- planes of the screen's size are lent from them
+pub size : {h w : ℕ} → h ≤ mostShown → w ≤ mostShown → length (take (3 * (h * w)) zeros) ≡ 3 * (h * w)
+size {h} {w} a b = length-take-le (3 * (h * w)) zeros (omega (arith, area a b, length-replicate (3 * mostArea) (ofBits binary32 0)))
 
 -- a choice by an answer that is 0
 accepting : {A : Type 0} (answer : ℕ) (x y : A) → answer ≡ 0 → cond (eqb answer 0) x y ≡ x

@@ -1,7 +1,7 @@
 -- 01, "Screen program": the fourteen values that are printed, in the order of their names, and the two lines of the output.
-use Prim.Native.Nat.{ℕ}
+use Prim.Native.Nat.{ℕ, _+_, _*_}
 use mathlib.Core.List.{List, [], _∷_, _++_}
-use lib.ListN.{replicate}
+use lib.ListN.{length, replicate}
 use Rattle.locate.specs.declared.Located.{Located}
 use Rattle.header.specs.Header.{sidesLine}
 use Rattle.text.specs.Text.{numbersLine}
@@ -27,3 +27,7 @@ alone n = n ∷ replicate 13 0
 -- the line of names and the line of values
 unfoldable pub textOf : List ℕ → List ℕ
 textOf values = namesLine ++ numbersLine values
+
+-- bytes that are enough for both: a value has at most 20 digits, and one byte behind it
+abbrev pub textRoom : ℕ
+textRoom = length namesLine + 14 * 21

@@ -7,18 +7,39 @@ ghost use Prim.Native.Nat.{ℕ, _≤_};
 ghost use lib.ListN.{length, take};
 ghost use Rattle.lists.specs.Front.{AtFront};
 ghost use Rattle.board.specs.Board.{leastSide};
-ghost use Rattle.board.specs.Planes.{FitPlanes};
+ghost use Rattle.board.specs.Inner.{FitPlanes};
 ghost use Rattle.locate.specs.Locate.{foundIn};
 ghost use Rattle.header.specs.Header.{mostShown};
 ghost use Rattle.reply.specs.Values as Spec;
-ghost use Rattle.reply.specs.Values.{textOf};
+ghost use Rattle.reply.specs.Values.{textOf, textRoom};
 ghost use Rattle.reply.specs.Answer.{valuesOf, answerTo, room};
 use board::Board;
+use header::FIRST_LINE;
 use header::Input;
+use header::MOST_SHOWN;
+use header::SECOND_LINE;
 use locate::Located;
 
+// Entries for the largest screen: its pixels, its planes, its two sides together.
+const AREA: usize = MOST_SHOWN * MOST_SHOWN;
+
+const PLANES: usize = 3 * AREA;
+
+const SIDES: usize = 2 * MOST_SHOWN;
+
+// So many bytes of the input are enough: the longest first two lines, and four bytes a pixel. The definition is `room`.
+pub const ROOM: usize = FIRST_LINE + SECOND_LINE + 4 * AREA;
+
+// The bytes of the line of names, and the values of the other line.
+const NAMES: usize = 86;
+
+const VALUES: usize = 14;
+
+// So many bytes hold the two lines: a value has at most 20 digits, and a byte behind it. The definition is `textRoom`.
+pub const TEXT_ROOM: usize = NAMES + 21 * VALUES;
+
 // What is printed of a located screen.
-fn located(l: Located) -> [u64; 14]
+fn located(l: Located) -> [u64; VALUES]
     ensures { λ r. ⌜ r ≡ Spec.located l ⌝ }
 {
     let b = l.board;
@@ -41,7 +62,7 @@ fn located(l: Located) -> [u64; 14]
 }
 
 // What is printed where loading refused or the first two lines are bad.
-fn alone(answer: u32) -> [u64; 14]
+fn alone(answer: u32) -> [u64; VALUES]
     ensures { λ r. ⌜ r ≡ Spec.alone answer ⌝ }
 {
     [answer as u64, 0, 0, 0, 0, 0, 0, 0, 0, 0, 0, 0, 0, 0]
@@ -52,11 +73,11 @@ fn locate_shown(b: Board, planes: &mut [f32]) -> Located
     requires { ⌜ FitPlanes leastSide (b .height) (b .width) (now planes) × (b .height ≤ mostShown) × (b .width ≤ mostShown) ⌝ }
     ensures { λ r. ⌜ r ≡ foundIn b (now (planes .entry)) ⌝ }
 {
-    let mut edges: [u8; 4096] = [0; 4096];
-    let mut scores: [u32; 128] = [0; 128];
-    let mut scratch_f32: [f32; 4096] = [0.0; 4096];
-    let mut scratch_u8: [u8; 4096] = [0; 4096];
-    let mut scratch_u32: [u32; 512] = [0; 512];
+    let mut edges: [u8; AREA] = [0; AREA];
+    let mut scores: [u32; SIDES] = [0; SIDES];
+    let mut scratch_f32: [f32; AREA] = [0.0; AREA];
+    let mut scratch_u8: [u8; AREA] = [0; AREA];
+    let mut scratch_u32: [u32; 4 * SIDES] = [0; 4 * SIDES];
     locate::get_pos_pixel(
         b,
         planes,
@@ -69,11 +90,11 @@ fn locate_shown(b: Board, planes: &mut [f32]) -> Located
 }
 
 // Loads and locates a screen of at most 64 by 64. The planes lent are the screen's and no longer, so that the definition names no buffer.
-fn values_of(height: usize, width: usize, pixels: &[u8]) -> [u64; 14]
+fn values_of(height: usize, width: usize, pixels: &[u8]) -> [u64; VALUES]
     requires { ⌜ (height ≤ mostShown) × (width ≤ mostShown) ⌝ }
     ensures { λ r. ⌜ r ≡ valuesOf height width (now (pixels .entry)) ⌝ }
 {
-    let mut planes: [f32; 12288] = [0.0; 12288];
+    let mut planes: [f32; PLANES] = [0.0; PLANES];
     let n = 3 * (height * width);
     let loaded = load::new(height, width, pixels, &mut planes[..n]);
     if loaded.answer != 0 {
@@ -83,7 +104,7 @@ fn values_of(height: usize, width: usize, pixels: &[u8]) -> [u64; 14]
 }
 
 // What is printed for the bytes of the input.
-fn answer_to(bytes: &[u8]) -> [u64; 14]
+fn answer_to(bytes: &[u8]) -> [u64; VALUES]
     ensures { λ r. ⌜ r ≡ answerTo (now (bytes .entry)) ⌝ }
 {
     match header::header(bytes) {
@@ -107,7 +128,7 @@ fn write_lines(values: &[u64], out: &mut [u8]) -> usize
 // Everything but the input and the output: writes the two lines to the front of `out`, and answers how many bytes they are. They are those
 // of any input whose first `room` bytes, or all where it has fewer, are the n that were read.
 pub fn reply(bytes: &[u8], n: usize, out: &mut [u8]) -> usize
-    requires { ⌜ (length (now bytes) ≡ room) × (n ≤ room) × (380 ≤ length (now out)) ⌝ }
+    requires { ⌜ (length (now bytes) ≡ room) × (n ≤ room) × (textRoom ≤ length (now out)) ⌝ }
     ensures { λ r. ⌜ ((input : List ℕ) → take room input ≡ take n (now (bytes .entry)) →
         (r ≡ length (textOf (answerTo input))) × AtFront (textOf (answerTo input)) (now (out .entry)) (now (out .exit))) ⌝ }
     ensures { λ r. ⌜ r ≤ length (now (out .exit)) ⌝ }

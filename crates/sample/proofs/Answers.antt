@@ -15,9 +15,9 @@ use Rattle.board.specs.declared.Board.{Board}
 use Rattle.board.specs.Board.{leastPlaneSide, mostSize}
 use Rattle.board.proofs.Sides.{both, neither, passed}
 use Rattle.board.specs.Planes.{planesAnswer}
-use Rattle.sample.specs.Copy.{AxisIn}
+use Rattle.sample.specs.Inner.{AxisIn, CellGives}
 use Rattle.sample.specs.Sample.{mostNumber, rowAt, columnAt, pitchOutside, allBelow, numbersAbove, cell, cellAnswer, sampleAnswer}
-use Rattle.sample.specs.Sample.{CellGives, SampleGives}
+use Rattle.sample.specs.Sample.{SampleGives}
 
 -- two rules that agree below n
 pub all-below-same : (f g : ℕ → ℕ) (limit n : ℕ) → ((i : ℕ) → i < n → f i ≡ g i) → allBelow f limit n ≡ allBelow g limit n

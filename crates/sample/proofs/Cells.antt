@@ -12,7 +12,7 @@ use Rattle.lists.proofs.Grid.{row-column, row-fits}
 use Rattle.board.specs.declared.Board.{Board}
 use Rattle.board.specs.Screen.{view}
 use Rattle.sample.specs.Sample.{rowAt, columnAt}
-use Rattle.sample.specs.Copy.{planeValue}
+use Rattle.sample.specs.Inner.{planeValue}
 use Rattle.sample.proofs.Answers.{CellIn}
 
 -- plane k of the cell, by the place in it

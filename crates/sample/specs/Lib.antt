@@ -1,2 +1,2 @@
-pub mod Copy
 pub mod Sample
+pub mod Inner

@@ -76,9 +76,3 @@ pub record SampleGives (b : Board) (planes : List Float) (x y size : ℕ) (befor
     : Type 0 where
   pub answer-is : answer ≡ sampleAnswer b planes x y size (length before)
   pub out-is : AtFront (cond (eqb answer 0) (cell b planes x y size) []) before after
-
--- the same without the checks of the planes
-pub record CellGives (b : Board) (planes : List Float) (x y size : ℕ) (before : List Float) (answer : ℕ) (after : List Float)
-    : Type 0 where
-  pub answer-is : answer ≡ cellAnswer b x y size (length before)
-  pub out-is : AtFront (cond (eqb answer 0) (cell b planes x y size) []) before after

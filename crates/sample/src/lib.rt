@@ -1,14 +1,15 @@
 // Sampling a cell of the board (01, "Cell sampling"). A call refuses with 1, 3, 4, 10, 11, 3 and 12, in that order, before it writes.
-// Definitions: specs/Sample; specs/Copy is for the inner functions.
+// Definitions: specs/Sample; specs/Inner is for the inner functions.
 ghost use mathlib.Core.Path.{_≡_};
 ghost use Prim.Native.Nat.{ℕ, _+_, _*_, _≤_, _<_};
 ghost use lib.ListN.{length, getD};
-ghost use Rattle.lists.specs.Front.{AtFront, Placed};
+ghost use Rattle.lists.specs.Front.{AtFront};
+ghost use Rattle.lists.specs.Inner.{Placed};
 ghost use Rattle.lists.specs.Tab.{tab, grid};
 ghost use Rattle.board.specs.Board.{mostSize};
 ghost use Rattle.sample.specs.Sample as Spec;
-ghost use Rattle.sample.specs.Sample.{sampledAt, cell, allBelow, cellAnswer, CellGives, SampleGives};
-ghost use Rattle.sample.specs.Copy.{AxisIn, rowValue, planeValue};
+ghost use Rattle.sample.specs.Sample.{sampledAt, cell, allBelow, cellAnswer, SampleGives};
+ghost use Rattle.sample.specs.Inner.{CellGives, AxisIn, rowValue, planeValue};
 use board::Board;
 
 // The most that a cell's numbers and a record's corner and offset may be.

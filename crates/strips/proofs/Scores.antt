@@ -14,9 +14,9 @@ use Rattle.lists.specs.Tab.{tabFrom, tab}
 use Rattle.lists.proofs.Tab.{length-tabFrom}
 use Rattle.lists.proofs.Front.{front-by}
 use Rattle.lanes.specs.Score.{Place, at, score}
-use Rattle.strips.specs.Strip.{places, placeCount, scores}
-use Rattle.lanes.specs.Sweep.{sweptScores}
-use Rattle.strips.specs.Parts.{bordered}
+use Rattle.strips.specs.Strip.{places, scoreCount, scores}
+use Rattle.strips.specs.Inner.{placeCount, bordered}
+use Rattle.lanes.specs.Inner.{sweptScores}
 
 -- ---- how many
 
@@ -44,7 +44,7 @@ pub count-is : (c₁ c₂ : ℕ) → placeCount c₁ c₂ ≡ length (places c�
 unfolding placeCount
 count-is c₁ c₂ = refl
 
-pub place-count : (c₁ c₂ : ℕ) → c₁ + 4 ≤ c₂ → placeCount c₁ c₂ ≡ c₂ - c₁
+pub place-count : (c₁ c₂ : ℕ) → c₁ + 4 ≤ c₂ → placeCount c₁ c₂ ≡ scoreCount c₁ c₂
 place-count c₁ c₂ h = count-is c₁ c₂ ∙ framed-length c₁ c₂ (middles c₁ c₂) ∙ omega arith
 
 -- what callers need of the number

@@ -13,8 +13,8 @@ use lib.Seq.{getD-set-same, getD-set-other, getD-take, length-take-le}
 use Rattle.lists.proofs.Grid.{row-column}
 use Rattle.lists.specs.Picture.{points}
 use Rattle.lanes.specs.Score.{at, onStrip, score}
-use Rattle.lanes.specs.States.{Marks}
-use Rattle.strips.specs.Parts.{Copied, Turned}
+use Rattle.lanes.specs.Inner.{Marks}
+use Rattle.strips.specs.Inner.{Copied, Turned}
 use Rattle.lanes.proofs.Walks.{least-cost-same}
 
 -- a place in rows of b is in one row, at one column

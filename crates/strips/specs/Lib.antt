@@ -1,2 +1,2 @@
 pub mod Strip
-pub mod Parts
+pub mod Inner

@@ -2,7 +2,6 @@
 use Prim.Native.Nat.{ℕ, _+_, _-_}
 use mathlib.Core.Bool.{Bool}
 use mathlib.Core.List.{List, [], _∷_, _++_, map}
-use lib.ListN.{length}
 use Rattle.lists.specs.Tab.{tab}
 use Rattle.lists.specs.Picture.{flip}
 use Rattle.board.specs.declared.Bounds.{Bounds}
@@ -13,9 +12,9 @@ abbrev pub places : ℕ → ℕ → List Place
 places c₁ c₂ =
     (at c₁ 0 ∷ at c₁ 1 ∷ []) ++ (tab (c₂ - c₁ - 4) (λ i. at (c₁ + i) 2) ++ (at (c₂ - 4) 3 ∷ at (c₂ - 4) 4 ∷ []))
 
--- how many they are, and so how many scores there are
-unfoldable pub placeCount : ℕ → ℕ → ℕ
-placeCount c₁ c₂ = length (places c₁ c₂)
+-- so columns c_1 to c_2 have c_2 − c_1 scores
+abbrev pub scoreCount : ℕ → ℕ → ℕ
+scoreCount c₁ c₂ = c₂ - c₁
 
 unfoldable pub scores : (ℕ → ℕ → Bool) → ℕ → ℕ → ℕ → ℕ → List ℕ
 scores E from to c₁ c₂ = map (score E from to) (places c₁ c₂)

@@ -6,10 +6,9 @@ ghost use Prim.Native.Nat.{_≤_, _<_, _+_, _*_, _-_};
 ghost use lib.ListN.{length};
 ghost use Rattle.lists.specs.Front.{AtFront};
 ghost use Rattle.lists.specs.Picture.{points};
-ghost use Rattle.lanes.specs.States.{Marks};
-ghost use Rattle.lanes.specs.Sweep.{sweptScores};
-ghost use Rattle.strips.specs.Strip.{placeCount, columnScores, rowScores};
-ghost use Rattle.strips.specs.Parts.{Scorable, twoScores, bordered, Copied, Turned};
+ghost use Rattle.lanes.specs.Inner.{Marks, sweptScores};
+ghost use Rattle.strips.specs.Strip.{columnScores, rowScores};
+ghost use Rattle.strips.specs.Inner.{placeCount, Scorable, twoScores, bordered, Copied, Turned};
 
 // Target lanes k and k + 1 of one strip, on either axis, into entries i and i + 1.
 fn two_scores(

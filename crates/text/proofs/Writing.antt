@@ -7,7 +7,7 @@ use native.Mathlib.Omega.{arith}
 use lib.ListN.{length, set, length-set, length-append}
 use lib.Seq.{set-split}
 use Rattle.lists.proofs.Front.{placed-none, placed-join}
-use Rattle.text.specs.Text.{Puts}
+use Rattle.text.specs.Inner.{Puts}
 
 pub puts-none : (at : ℕ) (before : List ℕ) → Puts [] at before at before
 puts-none at before = record { next-is = omega arith; placed = placed-none }

@@ -1,11 +1,8 @@
 -- Numbers and lines in bytes of ASCII: 10 a line feed, 32 a space, 48 to 57 the digits.
 use Prim.Native.Nat.{ℕ, zero, suc, _+_, _/_, _%_}
-use mathlib.Core.Path.{_≡_}
 use mathlib.Core.Bool.{cond}
 use mathlib.Core.List.{List, [], _∷_, _++_}
 use lib.Dec.{ltb}
-use lib.ListN.{length}
-use Rattle.lists.specs.Front.{Placed}
 
 -- the decimal digits of a number that has at most so many
 abbrev pub digitsOf : ℕ → ℕ → List ℕ
@@ -29,8 +26,3 @@ spaced (n ∷ ns) = decimal n ++ following ns
 -- and a line feed behind them
 abbrev pub numbersLine : List ℕ → List ℕ
 numbersLine ns = spaced ns ++ (10 ∷ [])
-
--- the text stands from `at` on, all else is as before, and `next` is the place behind it
-pub record Puts (text : List ℕ) (at : ℕ) (before : List ℕ) (next : ℕ) (after : List ℕ) : Type 0 where
-  pub next-is : next ≡ at + length text
-  pub placed : Placed text at before after

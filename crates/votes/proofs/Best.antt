@@ -9,7 +9,7 @@ use borrow.Author.Tests.{ltb-true, ltb-false}
 use lib.Dec.{ltb}
 use Rattle.votes.specs.declared.Choice.{Choice}
 use Rattle.votes.specs.Votes.{Ahead}
-use Rattle.votes.specs.VoteSearch.{OneOf, Block, Picks}
+use Rattle.votes.specs.Inner.{OneOf, Block, Picks}
 
 -- ---- the order
 

@@ -36,6 +36,7 @@ module _ (e : ℕ) (lines : List ℕ) where
         quarters = record { low = s .above; high = omega (arith, s .above, s .below) };
       })
 
+-- what the search finds is searched, has the votes of its pair, and is ahead of every other pair of the range
 pub winner-wins : (e : ℕ) (lines : List ℕ) → 0 < length lines → 6 ≤ e → e ≤ 205 → Wins lines e (winner e lines)
 winner-wins e [] h low high = absurd (omega arith)
 winner-wins e (l ∷ lines) h low high =

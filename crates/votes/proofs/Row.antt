@@ -13,7 +13,7 @@ use lib.Seq.{getD-set-same, getD-set-other, drop-cons}
 use Rattle.lists.specs.Front.{AtFront}
 use Rattle.lists.proofs.Front.{front-within}
 use Rattle.votes.specs.Votes.{maxPitch, minPitch, votesOfLine, votes}
-use Rattle.votes.specs.VoteSearch.{hit, Added}
+use Rattle.votes.specs.Inner.{hit, Added}
 
 -- a row that was cleared
 pub cleared-at : (width : ℕ) {row out : List ℕ} → AtFront (replicate width 0) row out → (o : ℕ) → o < width → getD out o 0 ≡ 0

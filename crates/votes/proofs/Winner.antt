@@ -12,7 +12,7 @@ use lib.Dec.{ltb}
 use lib.ListN.{getD}
 use Rattle.votes.specs.declared.Choice.{Choice}
 use Rattle.votes.specs.Votes.{maxPitch, minPitch, lastOffset, votes, better, overQuarters, overOffsets, winner}
-use Rattle.votes.specs.VoteSearch.{Added, Block, Picks}
+use Rattle.votes.specs.Inner.{Added, Block, Picks}
 use Rattle.votes.proofs.Best.{ahead-more, ahead-tie, pair, pair-kept, pair-taken, picks-none, picks-one}
 use Rattle.votes.proofs.Best.{picks-low, block-same, quarters-on, offsets-on}
 

@@ -4,7 +4,7 @@ ghost use mathlib.Core.Path.{_≡_};
 ghost use Prim.Native.Nat.{ℕ, _+_, _-_, _*_, _^_, _≤_, _<_};
 ghost use lib.ListN.{length, getD};
 ghost use Rattle.votes.specs.Votes.{maxPitch, minPitch, votesOfLine, votes, winner};
-ghost use Rattle.votes.specs.VoteSearch.{hit, Added, Block, Picks};
+ghost use Rattle.votes.specs.Inner.{hit, Added, Block, Picks};
 
 // An offset with a pitch in quarters, and the votes that the pair gets.
 pub struct Choice {

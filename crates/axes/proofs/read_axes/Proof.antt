@@ -10,7 +10,7 @@ use Rattle.lists.specs.Picture.{points}
 use Rattle.lists.specs.Front.{AtFront}
 use Rattle.board.specs.declared.Bounds.{Bounds}
 use Rattle.strips.specs.Strip.{columnScores, rowScores}
-use Rattle.strips.specs.Parts.{Scorable}
+use Rattle.strips.specs.Inner.{Scorable}
 use Rattle.reading.specs.Reading.{quartersOf}
 use Rattle.axes.proofs.Scoring.{across-part, down-part, across-in, down-in, across-fit, down-fit}
 use borrow.Author.Needs.{needs}

@@ -1,4 +1,4 @@
-use Rattle.binary32.specs.Binary32.{lesser}
+use Rattle.binary32.specs.Inner.{lesser}
 use Rattle.binary32.proofs.lesser.Statement.{statement}
 use Rattle.binary32.proofs.lesser.Tie as tie
 

@@ -2,7 +2,7 @@ use mathlib.Core.Path.{sym, _∙_}
 use native.Mathlib.Omega.{arith}
 use borrow.Author.Tests.{le-leb, lt-leb}
 use Rattle.board.specs.Board.{leastPlaneSide, hasChannel}
-use Rattle.board.specs.Planes.{SidesIn}
+use Rattle.board.specs.Inner.{SidesIn}
 use Rattle.board.proofs.Sides.{sides-in}
 use borrow.Author.Needs.{needs}
 use Rattle.board.proofs.has_channel.Statement.{statement}

@@ -4,7 +4,8 @@ use mathlib.Core.Bool.{false}
 use native.Mathlib.Omega.{arith}
 use borrow.Author.Tests.{lt-ltb, le-ltb}
 use Rattle.board.specs.Board.{sidesOutside}
-use Rattle.board.specs.Planes.{planesAnswer, SidesIn}
+use Rattle.board.specs.Planes.{planesAnswer}
+use Rattle.board.specs.Inner.{SidesIn}
 use Rattle.board.proofs.Sides.{sides-in}
 use borrow.Author.Needs.{needs}
 use Rattle.board.proofs.planes_answer.Statement.{statement}

@@ -5,7 +5,7 @@ use mathlib.Core.Path.{sym, _∙_}
 use native.Mathlib.Omega.{arith}
 use denote.Ref.{now}
 use Rattle.bounds.specs.Scan.{bound}
-use Rattle.bounds.specs.View.{seen, low, high}
+use Rattle.bounds.specs.Inner.{seen, low, high}
 use Rattle.bounds.proofs.Scans.{Reached, reached-none, reached-more, reached-end, move-to}
 use Rattle.bounds.proofs.Views.{place-below}
 use borrow.Author.Needs.{needs}

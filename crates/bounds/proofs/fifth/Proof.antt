@@ -7,7 +7,7 @@ use native.Mathlib.Omega.{arith}
 use denote.Ref.{now}
 use borrow.Author.Tests.{eq-eqb, ne-eqb}
 use Rattle.bounds.specs.Scan.{seenAt}
-use Rattle.bounds.specs.View.{seen}
+use Rattle.bounds.specs.Inner.{seen}
 use Rattle.bounds.proofs.Scans.{seen-more, seen-none}
 use borrow.Author.Needs.{needs}
 use Rattle.bounds.proofs.fifth.Statement.{statement}

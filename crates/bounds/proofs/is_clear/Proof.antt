@@ -5,7 +5,7 @@ use mathlib.Core.Path.{_≡_, sym}
 use native.Mathlib.Omega.{arith}
 use denote.Ref.{now}
 use borrow.Author.Tests.{le-leb, lt-leb}
-use Rattle.bounds.specs.View.{seen}
+use Rattle.bounds.specs.Inner.{seen}
 use Rattle.bounds.specs.Widen.{pair, total, sumAt}
 use Rattle.bounds.proofs.Widening.{total-more, total-none, pair-le}
 use borrow.Author.Needs.{needs}

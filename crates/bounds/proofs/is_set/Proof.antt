@@ -5,7 +5,7 @@ use denote.Ref.{now}
 use lib.ListN.{length}
 use Rattle.lists.specs.Picture.{points}
 use Rattle.bounds.specs.Scan.{place}
-use Rattle.bounds.specs.View.{seen}
+use Rattle.bounds.specs.Inner.{seen}
 use Rattle.bounds.proofs.Views.{place-below}
 use borrow.Author.Needs.{needs}
 use Rattle.bounds.proofs.is_set.Statement.{statement}

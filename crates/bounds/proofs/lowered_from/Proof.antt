@@ -4,7 +4,7 @@ use Prim.Native.Nat.{_≤_}
 use mathlib.Core.Path.{_≡_, refl, sym, _∙_}
 use native.Mathlib.Omega.{arith}
 use denote.Ref.{now}
-use Rattle.bounds.specs.View.{seen}
+use Rattle.bounds.specs.Inner.{seen}
 use Rattle.bounds.specs.Widen.{lowered, sumAt}
 use Rattle.bounds.proofs.Widening.{lowered-more, lowered-none}
 use borrow.Author.Needs.{needs}

@@ -5,7 +5,7 @@ use native.Mathlib.Omega.{arith}
 use denote.Ref.{now}
 use borrow.Author.Tests.{le-leb, lt-leb, lt-ltb, le-ltb}
 use Rattle.bounds.specs.Scan.{skips}
-use Rattle.bounds.specs.View.{seen, low, high}
+use Rattle.bounds.specs.Inner.{seen, low, high}
 use Rattle.bounds.proofs.Scans.{skips-more, skips-none}
 use borrow.Author.Needs.{needs}
 use Rattle.bounds.proofs.skip_from.Statement.{statement}

@@ -3,7 +3,7 @@ use Prim.Native.Nat.{ℕ}
 use mathlib.Core.Bool.{Bool}
 use denote.Ref.{now}
 use Rattle.bounds.specs.declared.Beside.{Beside}
-use Rattle.bounds.specs.declared.Beside.the-variants.{Ahead, Before}
+use Rattle.bounds.specs.declared.Beside.the-variants.{Along, Across}
 use Rattle.bounds.specs.declared.Way.{Way}
 use Rattle.bounds.specs.declared.Way.the-variants.{Near, Far}
 use Rattle.bounds.specs.Widen.{widened}
@@ -51,14 +51,14 @@ returns c =
     let a = r-1 .before .before .before .args in
     let E = now (a .edges) in
     let is-r-1 =
-    of-rows (rule Ahead (a .b .«r_1»)) Near (a .row) (a .column) (a .stride) E (r-1 .widened-from .ensures) (r-1 .before .rows .ensures) in
+    of-rows (rule Along (a .b .«r_1»)) Near (a .row) (a .column) (a .stride) E (r-1 .widened-from .ensures) (r-1 .before .rows .ensures) in
     let is-r-2 =
-    of-rows (rule Ahead (a .b .«r_2»)) Far (a .row) (a .column) (a .stride) E (r-2 .widened-from2 .ensures) (r-2 .before .rows2 .ensures) in
+    of-rows (rule Along (a .b .«r_2»)) Far (a .row) (a .column) (a .stride) E (r-2 .widened-from2 .ensures) (r-2 .before .rows2 .ensures) in
     let is-c-1 =
-    of-columns (rule Before (a .b .«c_1»)) Near (a .row) (a .column) (a .stride) E (c-1 .widened-from3 .ensures)
+    of-columns (rule Across (a .b .«c_1»)) Near (a .row) (a .column) (a .stride) E (c-1 .widened-from3 .ensures)
     (c-1 .before .columns .ensures) in
     let is-c-2 =
-    of-columns (rule Ahead (a .b .«c_2»)) Far (a .row) (a .column) (a .stride) E (c .widened-from4 .ensures)
+    of-columns (rule Along (a .b .«c_2»)) Far (a .row) (a .column) (a .stride) E (c .widened-from4 .ensures)
     (c .before .columns2 .ensures) in
     rw (is-r-1, is-r-2, is-c-1, is-c-2)
 

@@ -2,7 +2,7 @@
 use Prim.Native.Nat.{_<_}
 use native.Mathlib.Omega.{arith}
 use denote.Ref.{now}
-use Rattle.bounds.specs.View.{seen}
+use Rattle.bounds.specs.Inner.{seen}
 use Rattle.bounds.specs.Widen.{sumAt, widened}
 use Rattle.bounds.proofs.Views.{place-below}
 use Rattle.bounds.proofs.Widening.{lowered-le}

@@ -4,7 +4,7 @@ use mathlib.Core.Path.{_≡_}
 use native.Mathlib.Nat.{zero-mul, mul-le-mul}
 use native.Mathlib.Omega.{arith}
 use denote.Ref.{now}
-use Rattle.edges.specs.Counts.{taken}
+use Rattle.edges.specs.Inner.{taken}
 use Rattle.edges.proofs.Sample.{partAt, atPlace, Counted, counted-none, counted-row, counted-all}
 use borrow.Author.Needs.{needs}
 use Rattle.edges.proofs.count_part.Statement.{statement}

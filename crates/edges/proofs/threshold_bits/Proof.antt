@@ -5,7 +5,7 @@ use native.Mathlib.Omega.{arith}
 use denote.Ref.{now}
 use lib.ListN.{length}
 use Rattle.binary32.proofs.Plain.{Plain}
-use Rattle.edges.specs.Counts.{part, sought}
+use Rattle.edges.specs.Inner.{part, sought}
 use Rattle.edges.proofs.Sample.{AllAre, part-plain, part-all}
 use Rattle.edges.proofs.Threshold.{Encloses, encloses-all, encloses-cut, cut-inside}
 use borrow.Author.Needs.{needs}

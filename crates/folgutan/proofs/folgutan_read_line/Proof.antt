@@ -1,4 +1,4 @@
-use mathlib.Core.Path.{sym, _∙_}
+-- `folgutan::folgutan_read_line` meets its contract: each case of the reading becomes the struct that `lineOf` gives it.
 use borrow.Author.Needs.{needs}
 use Rattle.folgutan.proofs.folgutan_read_line.Statement.{statement}
 use Rattle.folgutan.proofs.folgutan_read_line.Tie as tie
@@ -17,16 +17,14 @@ same-length c = search needs
 
 returns : tie.Need-returns
 returns c =
-    let line = c .before .before .before .before .before .get-line .ensures in
-    (rw (sym (line .0) ∙ c .before .reading .given .1), line .1)
+    rw (c .before .reading .given .1) at (c .before .before .before .before .before .get-line .ensures .1)
 
 same-length-2 : tie.Need-same-length-2
 same-length-2 c = search needs
 
 returns-2 : tie.Need-returns-2
 returns-2 c =
-    let line = c .before .before .before .before .before .get-line .ensures in
-    (rw (sym (line .0) ∙ c .before .reading2 .given .1), line .1)
+    rw (c .before .reading2 .given .1) at (c .before .before .before .before .before .get-line .ensures .1)
 
 pub folgutan-read-line-spec : {M : Type 1} → statement M
 folgutan-read-line-spec =

@@ -5,7 +5,8 @@ use mathlib.Core.Path.{_≡_, sym, _∙_}
 use native.Mathlib.Nat.{zero-mul}
 use native.Mathlib.Omega.{arith}
 use denote.Ref.{now}
-use Rattle.lists.specs.Front.{AtFront, Placed}
+use Rattle.lists.specs.Front.{AtFront}
+use Rattle.lists.specs.Inner.{Placed}
 use Rattle.lists.specs.Tab.{tab, grid}
 use Rattle.lists.proofs.Front.{front-none, placed-none, placed-more, front-row}
 use Rattle.board.specs.Screen.{view}

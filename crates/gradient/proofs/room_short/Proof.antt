@@ -3,7 +3,7 @@ use mathlib.Core.Path.{sym, _∙_}
 use mathlib.Core.Bool.{true≢false}
 use native.Mathlib.Omega.{arith}
 use Rattle.board.specs.Board.{leastPlaneSide}
-use Rattle.board.specs.Planes.{SidesIn}
+use Rattle.board.specs.Inner.{SidesIn}
 use Rattle.board.proofs.Sides.{sides-in}
 use Rattle.gradient.proofs.Laws.{inner-le}
 use borrow.Author.Needs.{needs}

@@ -2,7 +2,8 @@
 use mathlib.Core.Path.{_≡_, ap, _∙_}
 use denote.Ref.{now}
 use Rattle.binary32.specs.Binary32.{magnitude}
-use Rattle.gradient.specs.Gradient.{rowSum, square}
+use Rattle.gradient.specs.Gradient.{rowSum}
+use Rattle.gradient.specs.Inner.{square}
 use Rattle.gradient.proofs.Squares.{square-sum, square-number}
 use borrow.Author.Needs.{needs}
 use Rattle.gradient.proofs.slope.Statement.{statement}

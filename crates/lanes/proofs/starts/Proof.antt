@@ -3,7 +3,7 @@ use Prim.Native.Nat.{_-_, _≤_}
 use native.Mathlib.Nat.{not-suc-le-zero}
 use native.Mathlib.Omega.{arith}
 use Rattle.lanes.specs.Walk.{apart}
-use Rattle.lanes.specs.States.{LanesHold}
+use Rattle.lanes.specs.Inner.{LanesHold}
 use Rattle.lanes.proofs.Stores.{Partly, partly-more}
 use borrow.Author.Needs.{needs}
 use Rattle.lanes.proofs.starts.Statement.{statement}

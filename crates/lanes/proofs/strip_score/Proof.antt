@@ -6,7 +6,7 @@ use denote.Ref.{now}
 use lib.ListN.{length}
 use Rattle.lists.specs.Picture.{points}
 use Rattle.lanes.specs.Score.{at, score}
-use Rattle.lanes.specs.States.{Walked}
+use Rattle.lanes.specs.Inner.{Walked}
 use Rattle.lanes.proofs.States.{row-more, row-in, lane-score}
 use borrow.Author.Needs.{needs}
 use Rattle.lanes.proofs.strip_score.Statement.{statement}

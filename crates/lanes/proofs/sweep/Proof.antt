@@ -4,7 +4,7 @@ use mathlib.Core.Path.{_≡_}
 use native.Mathlib.Nat.{mul-le-mul-right}
 use native.Mathlib.Omega.{arith}
 use Rattle.lists.specs.Picture.{points}
-use Rattle.lanes.specs.Sweep.{Swept}
+use Rattle.lanes.specs.Inner.{Swept}
 use borrow.Author.Needs.{needs}
 use Rattle.lanes.proofs.sweep.Statement.{statement}
 use Rattle.lanes.proofs.sweep.Tie as tie

@@ -6,7 +6,7 @@ use native.Mathlib.Omega.{arith}
 use denote.Ref.{now}
 use Rattle.lists.specs.Picture.{points}
 use Rattle.lanes.specs.Score.{at}
-use Rattle.lanes.specs.States.{Walked}
+use Rattle.lanes.specs.Inner.{Walked}
 use Rattle.lanes.proofs.States.{row-more}
 use Rattle.lanes.proofs.Stores.{Partly, partly-more}
 use borrow.Author.Needs.{needs}

@@ -3,7 +3,8 @@ use Prim.Native.Nat.{ℕ, _^_, _≤_}
 use mathlib.Core.Path.{_≡_}
 use denote.Ref.{now}
 use lib.ListN.{length}
-use Rattle.rank.specs.Rank.{self, entry, countAtMost}
+use Rattle.rank.specs.Rank.{self, entry}
+use Rattle.rank.specs.Inner.{countAtMost}
 use Rattle.binary32.proofs.Values.{in-float}
 use Rattle.lines.proofs.Entries.{all-counted, entry-le}
 use native.Mathlib.Omega.{arith}

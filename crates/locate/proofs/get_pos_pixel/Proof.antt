@@ -6,9 +6,9 @@ use lib.ListN.{length-take}
 use lib.Seq.{drop-at, length-take-le}
 use Rattle.board.specs.declared.Board.{Board}
 use Rattle.board.specs.Board.{leastSide}
-use Rattle.board.specs.Planes.{FitPlanes}
+use Rattle.board.specs.Inner.{FitPlanes}
 use Rattle.locate.specs.Locate.{Lent, lent, checked}
-use Rattle.locate.specs.Steps.{NoneShort}
+use Rattle.locate.specs.Inner.{NoneShort}
 use Rattle.locate.proofs.Checks.{fit}
 use Rattle.locate.proofs.Working.{refuses, accepts}
 use borrow.Author.Needs.{needs}

@@ -6,7 +6,7 @@ use denote.Ref.{now}
 use lib.ListN.{take}
 use Rattle.board.specs.declared.Bounds.{Bounds}
 use Rattle.axes.proofs.Scoring.{across-fit, down-fit, quarters-fit}
-use Rattle.strips.specs.Parts.{Scorable}
+use Rattle.strips.specs.Inner.{Scorable}
 use Rattle.locate.proofs.Leading.{picture-length, rows-in, scorable, room-for}
 use borrow.Author.Needs.{needs}
 use Rattle.locate.proofs.read_from.Statement.{statement}

@@ -4,7 +4,7 @@ use mathlib.Core.Bool.{true≢false}
 use native.Mathlib.Omega.{arith}
 use borrow.Author.Tests.{lt-ltb, le-ltb}
 use Rattle.board.specs.Board.{leastSide}
-use Rattle.board.specs.Planes.{SidesIn}
+use Rattle.board.specs.Inner.{SidesIn}
 use Rattle.board.proofs.Sides.{sides-in}
 use Rattle.locate.specs.Locate.{slicesShort}
 use borrow.Author.Needs.{needs}

@@ -5,12 +5,12 @@ use denote.Ref.{now}
 use lib.ListN.{length}
 use Rattle.board.specs.declared.Board.{Board}
 use Rattle.board.specs.Board.{leastSide, leastPlaneSide}
-use Rattle.board.specs.Planes.{FitPlanes}
+use Rattle.board.specs.Inner.{FitPlanes}
 use Rattle.board.proofs.Planes.{fit-lower}
 use Rattle.narrowings.specs.Loop.{first, lastOf}
-use Rattle.narrowings.specs.Steps.{Looks, Narrows}
+use Rattle.narrowings.specs.Inner.{Looks, Narrows}
 use Rattle.locate.specs.Locate.{Lent, lent}
-use Rattle.locate.specs.Steps.{NoneShort}
+use Rattle.locate.specs.Inner.{NoneShort}
 use Rattle.locate.proofs.Working.{leads, works-small, works-read}
 use borrow.Author.Needs.{needs}
 use Rattle.locate.proofs.work.Statement.{statement}

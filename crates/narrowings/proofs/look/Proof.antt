@@ -9,7 +9,7 @@ use lib.ListN.{length, take}
 use Rattle.lists.specs.Picture.{points}
 use Rattle.lists.specs.Front.{AtFront}
 use Rattle.board.specs.Board.{leastPlaneSide}
-use Rattle.board.specs.Planes.{SidesIn}
+use Rattle.board.specs.Inner.{SidesIn}
 use Rattle.gradient.specs.Gradient.{gradients}
 use Rattle.gradient.proofs.Laws.{inner-le, length-gradients}
 use Rattle.edges.specs.Edges.{edges}

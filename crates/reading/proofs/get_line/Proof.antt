@@ -5,8 +5,8 @@ use native.Mathlib.Omega.{arith}
 use denote.Ref.{now}
 use lib.ListN.{length, length-take}
 use lib.Seq.{drop-at, length-take-le}
-use Rattle.lines.specs.Lines.{InLimits}
-use Rattle.reading.proofs.Answers.{line-fit, declined, taken}
+use Rattle.lines.specs.Inner.{InLimits}
+use Rattle.reading.proofs.Answers.{line-fit, declined, taken, line-gives}
 use Rattle.reading.proofs.Laws.{quarters-pitched}
 use borrow.Author.Needs.{needs}
 use Rattle.reading.proofs.get_line.Statement.{statement}
@@ -29,7 +29,8 @@ line-answer-requires c κs = search needs
 returns : tie.Need-returns
 returns c =
     let a = c .before .before .before .before .args in
-    (declined (now (a .list)) (length (now (a .scratch))) (c .before .line-answer .ensures) (c .if1 .taken), refl)
+    let e = declined (now (a .list)) (length (now (a .scratch))) (c .before .line-answer .ensures) (c .if1 .taken) in
+    (e, line-gives (now (a .list)) (now (a .scratch)) e refl)
 
 mul-room : tie.Need-mul-room
 mul-room c = search needs
@@ -56,10 +57,10 @@ returns-2 c =
     let read = at-quarters (c .before) in
     let test = read .before .before in
     let a = start test .args in
-    let zero = sym (test .before .line-answer .ensures) ∙ test .if1 .left in (
-      (rw (read .quarters-of .ensures) at (c .pitched-of .ensures)) ∙ taken (now (a .list)) (length (now (a .scratch))) zero,
-      drop-at (read .quarters-of .last .1 .0) _ _ (read .quarters-of .kept .1 .0 ∙ length-take-le _ _ (fits test .1)),
-    )
+    let zero = sym (test .before .line-answer .ensures) ∙ test .if1 .left in
+    let e = (rw (read .quarters-of .ensures) at (c .pitched-of .ensures)) ∙ taken (now (a .list)) (length (now (a .scratch))) zero in
+    let kept = drop-at (read .quarters-of .last .1 .0) _ _ (read .quarters-of .kept .1 .0 ∙ length-take-le _ _ (fits test .1)) in
+    (e, line-gives (now (a .list)) (now (a .scratch)) e kept)
 
 pub get-line-spec : {M : Type 1} → statement M
 get-line-spec =

@@ -3,7 +3,7 @@ use Prim.Native.Nat.{ℕ}
 use mathlib.Core.List.{List}
 use native.Mathlib.Omega.{arith}
 use denote.Ref.{now}
-use Rattle.reading.specs.Reading.{Standing}
+use Rattle.reading.specs.Inner.{Standing}
 use Rattle.reading.proofs.Answers.{refused}
 use Rattle.reading.proofs.Laws.{readable-more, standing-read, handed-lines, handed-refusal}
 use borrow.Author.Needs.{needs}

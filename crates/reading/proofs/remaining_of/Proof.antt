@@ -9,7 +9,8 @@ use denote.Ref.{now}
 use lib.ListN.{length, take}
 use Rattle.lists.specs.Front.{AtFront}
 use Rattle.lists.proofs.Front.{front-part, front-fits}
-use Rattle.lines.specs.Lines.{linesOf, wideGaps, estimate, Remains}
+use Rattle.lines.specs.Lines.{linesOf, wideGaps, estimate}
+use Rattle.lines.specs.Inner.{Remains}
 use Rattle.lines.proofs.Laws.{lines-few, lines-low, gaps-few, gaps-low, estimate-is}
 use Rattle.reading.proofs.Answers.{no-gap, too-wide}
 use Rattle.reading.proofs.Laws.{standing}

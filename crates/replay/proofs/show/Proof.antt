@@ -6,10 +6,10 @@ use Rattle.replay.proofs.show.Statement.{statement}
 use Rattle.replay.proofs.show.Tie as tie
 
 abbrev Inv-loop : tie.InvT-loop
-Inv-loop planes k₀ k-end k = (k ≤ length planes) × (k-end ≡ length planes)
+Inv-loop plane n₀ n-end n = (n ≤ length plane) × (n-end ≡ length plane)
 
 abbrev μ-loop : tie.MeasureT-loop
-μ-loop planes k₀ k-end k = length planes - k
+μ-loop plane n₀ n-end n = length plane - n
 
 loop-holds : tie.Need-loop-holds Inv-loop μ-loop
 loop-holds c = search needs
@@ -26,8 +26,8 @@ bits-requires c κs = search needs
 line-requires : tie.Need-line-requires Inv-loop μ-loop
 line-requires c κs = search needs
 
-add-k : tie.Need-add-k Inv-loop μ-loop
-add-k c = search needs
+add-n : tie.Need-add-n Inv-loop μ-loop
+add-n c = search needs
 
 loop-less : tie.Need-loop-less Inv-loop μ-loop
 loop-less c = search needs
@@ -49,7 +49,7 @@ show-spec =
     shared-slice-read-bits
     bits-requires
     line-requires
-    add-k
+    add-n
     loop-less
     loop-again
     returns)

@@ -1,4 +1,4 @@
--- `reply::locate_shown` meets its contract: the arrays are long enough for sides up to 64.
+-- `reply::locate_shown` meets its contract: the arrays are long enough for sides up to `mostShown`.
 use mathlib.Core.Path.{refl}
 use Rattle.reply.proofs.Locating.{locates}
 use borrow.Author.Needs.{needs}

@@ -1,5 +1,5 @@
 -- `reply::reply` meets its contract: the two lines are those of the values that `answer_to` hands back for the bytes read, which are
--- enough (Room). Fourteen numbers fit into 380 bytes.
+-- enough (Room). Fourteen numbers fit into `textRoom` bytes.
 use mathlib.Core.Path.{sym, ap, _∙_}
 use native.Mathlib.Omega.{arith}
 use denote.Ref.{now}

@@ -5,11 +5,11 @@ use native.Mathlib.Nat.{zero-mul}
 use native.Mathlib.Omega.{arith}
 use lib.Arith.{digits-div, digits-mod}
 use lib.ListN.{length, getD}
-use Rattle.lists.specs.Front.{Placed}
+use Rattle.lists.specs.Inner.{Placed}
 use Rattle.lists.specs.Tab.{grid}
 use Rattle.lists.proofs.Front.{placed-none, placed-row}
 use Rattle.lists.proofs.Grid.{row-fits}
-use Rattle.sample.specs.Copy.{planeValue}
+use Rattle.sample.specs.Inner.{planeValue}
 use borrow.Author.Needs.{needs}
 use Rattle.sample.proofs.copy_plane.Statement.{statement}
 use Rattle.sample.proofs.copy_plane.Tie as tie

@@ -4,10 +4,10 @@ use Prim.Native.Nat.{_+_, _-_, _≤_, _<_}
 use mathlib.Core.Path.{_≡_, refl}
 use native.Mathlib.Omega.{arith}
 use lib.ListN.{length, getD}
-use Rattle.lists.specs.Front.{Placed}
+use Rattle.lists.specs.Inner.{Placed}
 use Rattle.lists.specs.Tab.{tab}
 use Rattle.lists.proofs.Front.{placed-none, placed-more}
-use Rattle.sample.specs.Copy.{rowValue}
+use Rattle.sample.specs.Inner.{rowValue}
 use borrow.Author.Needs.{needs}
 use Rattle.sample.proofs.copy_row.Statement.{statement}
 use Rattle.sample.proofs.copy_row.Tie as tie

@@ -10,7 +10,7 @@ use Rattle.lists.specs.Front.{AtFront}
 use Rattle.lists.specs.Picture.{points}
 use Rattle.lists.proofs.Tab.{length-tabFrom}
 use Rattle.lists.proofs.Front.{front-none, front-all}
-use Rattle.lanes.specs.Sweep.{sweptScores}
+use Rattle.lanes.specs.Inner.{sweptScores}
 use Rattle.strips.proofs.Bands.{band-in, scratch-in, front-band}
 use borrow.Author.Needs.{needs}
 use Rattle.strips.proofs.banded_scores.Statement.{statement}

@@ -4,7 +4,7 @@ use mathlib.Core.Path.{_≡_}
 use native.Mathlib.Omega.{arith}
 use denote.Ref.{now}
 use lib.ListN.{length}
-use Rattle.strips.specs.Strip.{placeCount}
+use Rattle.strips.specs.Inner.{placeCount}
 use Rattle.strips.proofs.Bands.{strip-in}
 use Rattle.strips.proofs.Scores.{count-least}
 use borrow.Author.Needs.{needs}

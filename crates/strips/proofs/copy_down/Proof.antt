@@ -2,7 +2,7 @@
 use Prim.Native.Nat.{_+_, _-_, _*_, _≤_}
 use mathlib.Core.Path.{_≡_}
 use native.Mathlib.Omega.{arith}
-use Rattle.strips.specs.Parts.{Copied}
+use Rattle.strips.specs.Inner.{Copied}
 use Rattle.lists.proofs.Grid.{row-fits}
 use Rattle.strips.proofs.Turning.{copied-none, copied-more}
 use borrow.Author.Needs.{needs}

@@ -6,7 +6,7 @@ use denote.Ref.{now}
 use borrow.Rule.Slice.PartMut.{midOf, mid-len}
 use lib.ListN.{length}
 use Rattle.lists.proofs.Picture.{flip-points}
-use Rattle.strips.specs.Strip.{placeCount}
+use Rattle.strips.specs.Inner.{placeCount}
 use Rattle.strips.proofs.Bands.{strips-in}
 use Rattle.strips.proofs.Scores.{count-least, count-most, joined}
 use borrow.Author.Needs.{needs}

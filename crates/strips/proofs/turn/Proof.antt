@@ -2,7 +2,7 @@
 use Prim.Native.Nat.{_+_, _-_, _*_, _≤_}
 use mathlib.Core.Path.{_≡_}
 use native.Mathlib.Omega.{arith}
-use Rattle.strips.specs.Parts.{Turned}
+use Rattle.strips.specs.Inner.{Turned}
 use Rattle.lists.proofs.Grid.{rows-fit}
 use Rattle.strips.proofs.Turning.{turned-start, turned-more}
 use borrow.Author.Needs.{needs}

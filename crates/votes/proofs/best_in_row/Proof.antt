@@ -4,7 +4,7 @@ use mathlib.Core.Path.{_≡_}
 use native.Mathlib.Omega.{arith}
 use denote.Ref.{now}
 use lib.ListN.{getD}
-use Rattle.votes.specs.VoteSearch.{Block, Picks}
+use Rattle.votes.specs.Inner.{Block, Picks}
 use Rattle.votes.proofs.Best.{picks-none, picks-low, offsets-on, block-same}
 use borrow.Author.Needs.{needs}
 use Rattle.votes.proofs.best_in_row.Statement.{statement}

@@ -1,4 +1,5 @@
--- For the code: the four bytes of a pixel in one number, and the three that are used taken out of it.
+-- For the code alone: the four bytes of a pixel in one number, and the three that are used taken out of it. No contract of an entry point
+-- reaches these.
 use Prim.Native.Nat.{ℕ, _+_, _/_, _%_}
 use mathlib.Core.Path.{_≡_}
 use mathlib.Core.List.{List}

@@ -1,13 +1,15 @@
--- For the code: the lanes of a strip while it is walked down.
+-- For the code alone: the lanes of a strip while it is walked down, and strips side by side, all with target lane 2, with their lanes in
+-- one list. No contract of an entry point reaches these.
 use Prim.Native.Nat.{ℕ, _+_, _*_, _≤_, _<_}
 use mathlib.Core.Bool.{Bool, not}
 use mathlib.Core.Path.{_≡_}
 use mathlib.Core.List.{List}
 use lib.Dec.{eqb}
-use lib.ListN.{getD}
+use lib.ListN.{getD, length}
 use Rattle.lists.specs.Picture.{bit}
 use Rattle.lanes.specs.declared.Lanes.{Lanes}
-use Rattle.lanes.specs.Score.{Place, onward, leastCost, onStrip}
+use Rattle.lanes.specs.Score.{Place, onward, leastCost, onStrip, at, score}
+use Rattle.lists.specs.Tab.{tab}
 
 -- bytes of 0 and 1
 abbrev pub Marks : List ℕ → Type 0
@@ -43,3 +45,23 @@ Advanced e o across v w =
 -- the lanes of a place's strip after t steps: 5 and the steps, less the least cost
 abbrev pub Walked : (ℕ → ℕ → Bool) → ℕ → Place → ℕ → Lanes → Type 0
 Walked E from p t v = LanesHold (t + 5) (leastCost (onStrip E from p) (p .lane) t) v
+
+-- the scores of m strips from column c on, all with target lane 2
+abbrev pub sweptScores : (ℕ → ℕ → Bool) → ℕ → ℕ → ℕ → ℕ → List ℕ
+sweptScores E from to c m = tab m (λ i. score E from to (at (c + i) 2))
+
+-- the lanes of strip i in the states of a sweep: lanes lie 4096 apart
+abbrev pub lanesOf : List ℕ → ℕ → Lanes
+lanesOf st i =
+    record { a = getD st i 0; b = getD st (4096 + i) 0; c = getD st (8192 + i) 0; d = getD st (12288 + i) 0; e = getD st (16384 + i) 0 }
+
+-- strip i has new lanes, the other strips are as they were
+pub record Stored (before : List ℕ) (i : ℕ) (v : Lanes) (after : List ℕ) : Type 0 where
+  pub len : length after ≡ 20480
+  pub new : lanesOf after i ≡ v
+  pub old : (j : ℕ) → j < 4096 → (j ≡ i → ⊥) → lanesOf after j ≡ lanesOf before j
+
+-- the m strips from column c on, t rows below row `from`, all with target lane 2
+pub record Swept (E : ℕ → ℕ → Bool) (from c m t : ℕ) (st : List ℕ) : Type 0 where
+  pub len : length st ≡ 20480
+  pub strip : (i : ℕ) → i < m → Walked E from (at (c + i) 2) t (lanesOf st i)

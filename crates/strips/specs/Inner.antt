@@ -1,5 +1,4 @@
--- What the two score lists ask, and what the inner functions ensure of each other: the border places, and a picture turned.
--- Only `Scorable` is part of a contract that others call; the scores themselves are Strip's.
+-- For the code alone: what the two score lists ask, the border places, and a picture turned. No contract of an entry point reaches these.
 use Prim.Native.Nat.{ℕ, _+_, _-_, _*_, _≤_, _<_}
 use mathlib.Core.Bool.{Bool}
 use mathlib.Core.Path.{_≡_}
@@ -7,8 +6,8 @@ use mathlib.Core.List.{List}
 use lib.ListN.{length, getD, set}
 use Rattle.board.specs.declared.Bounds.{Bounds}
 use Rattle.lanes.specs.Score.{at, score}
-use Rattle.lanes.specs.States.{Marks}
-use Rattle.strips.specs.Strip.{placeCount}
+use Rattle.lanes.specs.Inner.{Marks}
+use Rattle.strips.specs.Strip.{places}
 
 -- what the two score lists ask: bounds within a packed picture of 0 and 1, sides of at most 4,094, both spans at least 4
 pub record Scorable (edges : List ℕ) (stride : ℕ) (b : Bounds) : Type 0 where
@@ -20,7 +19,9 @@ pub record Scorable (edges : List ℕ) (stride : ℕ) (b : Bounds) : Type 0 wher
   pub whole : (b .«r_2» + 1) * stride ≤ length edges
   pub marks : Marks edges
 
--- ---- for the contracts inside
+-- how many scored places there are
+unfoldable pub placeCount : ℕ → ℕ → ℕ
+placeCount c₁ c₂ = length (places c₁ c₂)
 
 -- a list with the scores of target lanes k and k + 1 of one strip as entries i and i + 1
 abbrev pub twoScores : (ℕ → ℕ → Bool) → ℕ → ℕ → ℕ → ℕ → ℕ → List ℕ → List ℕ

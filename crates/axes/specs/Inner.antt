@@ -1,11 +1,13 @@
--- For the code: both axes of an edge picture over some bounds, what their scores and readings ask and leave.
+-- For the code alone: both axes of an edge picture over some bounds, what their scores and readings ask and leave. No contract of an
+-- entry point reaches these.
 use Prim.Native.Nat.{ℕ, _+_, _-_, _*_, _≤_}
 use mathlib.Core.Bool.{Bool}
 use mathlib.Core.Path.{_≡_}
 use mathlib.Core.List.{List, _++_}
 use Rattle.lists.specs.Front.{AtFront}
 use Rattle.board.specs.declared.Bounds.{Bounds}
-use Rattle.strips.specs.Strip.{placeCount, columnScores, rowScores}
+use Rattle.strips.specs.Strip.{columnScores, rowScores}
+use Rattle.strips.specs.Inner.{placeCount}
 use Rattle.reading.specs.declared.Quarters.{Quarters}
 use Rattle.reading.specs.declared.Quarters.the-variants.{Read, Refused}
 use Rattle.reading.specs.Reading.{quartersOf}

@@ -1,4 +1,4 @@
--- A picture in the edge bytes, seen along one way. Only the contracts inside this crate need it.
+-- For the code alone: a picture in the edge bytes, seen along one way. No contract of an entry point reaches these.
 use Prim.Native.Nat.{ℕ, _+_, _*_, _/_, _≤_, _<_}
 use mathlib.Core.Bool.{Bool}
 use mathlib.Core.List.{List}

@@ -1,4 +1,4 @@
--- For the code: what its inner steps ask and leave. The promise rests on none of it.
+-- For the code alone: what its inner steps ask and leave. No contract of an entry point reaches these.
 use Prim.Native.Nat.{ℕ, _+_, _-_, _*_, _/_, _≤_, _<_}
 use mathlib.Core.Path.{_≡_}
 use mathlib.Core.Bool.{Bool}

@@ -1,4 +1,4 @@
--- For the code: what its steps ask and leave.
+-- For the code alone: what its steps ask and leave. No contract of an entry point reaches these.
 use Prim.Native.Nat.{ℕ}
 use mathlib.Core.Path.{_≡_}
 use mathlib.Core.Bool.{false}

@@ -1,5 +1,4 @@
--- What the inner functions of the search say to each other: a row of votes, and the best of a part of the range.
--- The promise of `winner_of` rests on none of it.
+-- For the code alone: a row of votes, and the best of a part of the range. No contract of an entry point reaches these.
 use Prim.Native.Nat.{ℕ, _+_, _≤_, _<_}
 use mathlib.Core.Path.{_≡_}
 use mathlib.Core.Logic.{_⊎_}

@@ -1,4 +1,5 @@
--- The search for the threshold's bits by counting, over parts of the sample. Only the contracts inside this crate need it.
+-- For the code alone: what it asks, and the search for the threshold's bits by counting, over parts of the sample. No contract of an entry
+-- point reaches these.
 use Prim.Native.Nat.{ℕ, _+_, _*_, _/_, _%_, _≤_, _<_}
 use mathlib.Core.Path.{_≡_}
 use mathlib.Core.List.{List}
@@ -6,8 +7,17 @@ use lib.Ieee.{Float, nan, binary32, toBits}
 use lib.ListN.{length, getD}
 use Rattle.lists.specs.Tab.{grid}
 use Rattle.rank.specs.Rank.{entry}
-use Rattle.edges.specs.Edges.{middle, clip, AllPlain}
+use Rattle.edges.specs.Edges.{middle, clip}
 use Rattle.edges.specs.declared.Range.{Range}
+
+-- every value has bits of at most infinity's: none is negative, -0.0 or NaN
+abbrev pub AllPlain : List Float → Type 0
+AllPlain g = (k : ℕ) → k < length g → toBits binary32 (getD g k nan) ≤ 0x7F800000
+
+-- gradients of sides that a screen's have, and room for a byte each
+abbrev pub EdgesFit : ℕ → ℕ → List Float → List ℕ → Type 0
+EdgesFit row column g out =
+    (2 ≤ row) × (row ≤ 4094) × (2 ≤ column) × (column ≤ 4094) × (length g ≡ row * column) × (row * column ≤ length out)
 
 -- what the search asks of the gradients: their sides, and that each is a plain value
 pub record GradientsFit (row column : ℕ) (g : List Float) : Type 0 where

@@ -1,4 +1,5 @@
--- For the code, which picks by three: three neighbours of a list sorted rising, and a row of a screen.
+-- For the code alone, which picks by three: three neighbours of a list sorted rising, and a row of a screen. No contract of an entry
+-- point reaches these.
 use Prim.Native.Nat.{ℕ, _+_}
 use mathlib.Core.List.{List, [], _∷_}
 use lib.Ieee.{Float, nan}

@@ -1,4 +1,4 @@
--- The bounds that C hands over.
+-- For the code alone: the bounds that C hands over. No contract of an entry point reaches these.
 use Rattle.board.specs.declared.Bounds.{Bounds}
 use Rattle.folgutan_inner.specs.declared.Corners.{Corners}
 
