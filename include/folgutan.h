@@ -11,8 +11,10 @@
  *   call returns.
  * - Nothing is kept: once a call returned, the slices are the caller's again.
  * The library allocates nothing, holds no state, and never fails but by its
- * answer. It counts on the floating-point environment that a C program starts
- * with: rounding to nearest, and subnormal numbers kept. */
+ * answer, on condition that the slices are as said and that the calling thread
+ * has FOLGUTAN_MOST_STACK bytes of stack left. It counts on the floating-point
+ * environment that a C program starts with: rounding to nearest, and subnormal
+ * numbers kept. */
 #ifndef FOLGUTAN_H
 #define FOLGUTAN_H
 
@@ -22,6 +24,10 @@
 #ifdef __cplusplus
 extern "C" {
 #endif
+
+/* The bytes of stack that a call takes at most, whatever it is handed, its
+ * arguments included. Where fewer are left, it can trap. */
+#define FOLGUTAN_MOST_STACK 65536
 
 /* Limits of both sides of a screen that is loaded (01, Load). */
 #define FOLGUTAN_LEAST_SIDE 12
@@ -67,7 +73,9 @@ extern "C" {
 typedef struct {
     size_t height, width;  /* sides of the screen, in pixels */
     size_t r_1, c_1;       /* top row and left column of the board */
-    size_t r0, c0;         /* offset of the first cell from there */
+    size_t r0, c0;         /* where the grid of cells begins, from there: the
+                            * smallest offset with the most votes. No line
+                            * has to lie there */
     size_t r, c;           /* rows and columns of cells */
     float pixelr, pixelc;  /* pitch of the cells, down and across, in pixels */
 } folgutan_board;
@@ -137,7 +145,7 @@ typedef struct {
  * scores: at least h + w entries.
  * scratch_f32, scratch_u8: at least h * w entries each; scratch_u32: at least
  *   4 * (h + w). What these entries hold does not matter, and they are free
- *   afterwards, on refusals too. Entries further on keep their content.
+ *   afterwards. Entries further on keep their content.
  *
  * FOLGUTAN_DONE: the record is the board's. r_1, c_1, r0, c0 and the pitches
  *   are in pixels of the edge picture, which is that of the planes as they
@@ -148,8 +156,8 @@ typedef struct {
  *   FOLGUTAN_SHORT_SLICE  one of the six slices is too short
  *   FOLGUTAN_BAD_VALUE    one of the first 3 * h * w plane values is not 0.0
  *                         to 1.0, or is -0.0
- *   Then nothing but scratch is written, and the record is handed back as
- *   given. Further refusals:
+ *   Then nothing is written, scratch included, and the record is handed back
+ *   as given. Further refusals:
  *   FOLGUTAN_TOO_SMALL        a board that covers more than a third of the
  *                             picture was not found before a side, less 2, was
  *                             64 or below
@@ -179,7 +187,8 @@ folgutan_located folgutan_locate(folgutan_board board,
 typedef struct {
     uint32_t answer;
     float pitch;    /* in pixels, a multiple of 0.25: 8.0 to 200.0 */
-    size_t offset;  /* that the pitch is counted from */
+    size_t offset;  /* where the grid of cells begins: the smallest one with
+                     * the most votes. No line has to lie there */
     size_t count;   /* of cells; it can be 0 */
     size_t votes;   /* of this pitch with this offset: at least 1 */
 } folgutan_reading;

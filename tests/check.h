@@ -37,9 +37,6 @@ int kept(lent_floats lent, size_t written);
 
 #define COUNT(list) (sizeof(list) / sizeof((list)[0]))
 
-/* The bytes of stack that a part takes, its own frames included. */
-size_t stack_used(void (*part)(void));
-
 /* The parts. */
 void test_load(void);
 void test_gradient(void);

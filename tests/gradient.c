@@ -1,6 +1,7 @@
 /* The gradient (01, Gradient and threshold). */
 #include "folgutan.h"
 
+#include "calls.h"
 #include "check.h"
 
 #include <math.h>

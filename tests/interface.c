@@ -2,6 +2,7 @@
  * what it leaves behind. */
 #include "folgutan.h"
 
+#include "calls.h"
 #include "check.h"
 
 #include <stdio.h>
@@ -117,22 +118,44 @@ int kept(lent_floats lent, size_t written)
     return same;
 }
 
-/* The parts, each with what it calls on a stack of its own, of which it takes less than 256 KB. */
+/* The parts, each with the answers that its call can give: all of them are met in it, and no other. */
 static const struct {
-    const char *name;
+    size_t call;
     void (*run)(void);
+    const char *answers;
 } parts[] = {
-    {"load", test_load},           {"gradient", test_gradient}, {"locate", test_locate},
-    {"read_line", test_read_line}, {"sample", test_sample},
+    {LOAD, test_load, "0 1 2 3"},
+    {GRADIENT, test_gradient, "0 1 3 4"},
+    {LOCATE, test_locate, "0 1 3 4 5 6 7 8 9"},
+    {READ_LINE, test_read_line, "0 1 3 6 7 11"},
+    {SAMPLE, test_sample, "0 1 3 4 10 11 12"},
 };
+
+/* The answers that a call gave, in the form of the lists above. */
+static void answers_met(const measures *m, char *text, size_t room)
+{
+    size_t at = 0;
+    text[0] = '\0';
+    for (size_t answer = 0; answer < ANSWERS && at < room; answer++)
+        if (m->answers[answer] > 0)
+            at += (size_t)snprintf(text + at, room - at, at == 0 ? "%zu" : " %zu", answer);
+}
 
 int main(void)
 {
     for (size_t at = 0; at < COUNT(parts); at++) {
-        size_t used = stack_used(parts[at].run);
-        check(used < 256 * 1024, parts[at].name, "stack");
-        printf("interface: %s takes %zu bytes of stack\n", parts[at].name, used);
+        const measures *m = &measured[parts[at].call];
+        clear_answers();
+        parts[at].run();
+        char met[80], what[200];
+        answers_met(m, met, sizeof met);
+        snprintf(what, sizeof what, "answers to meet %s, met %s", parts[at].answers, met);
+        check(strcmp(met, parts[at].answers) == 0, m->name, what);
+        printf("interface: %s met the answers %s\n", m->name, met);
     }
+    for (size_t call = 0; call < CALLS; call++)
+        printf("interface: %s took at most %zu of %d bytes of stack\n", measured[call].name,
+               measured[call].most_stack, FOLGUTAN_MOST_STACK);
     printf("interface: %lu checks\n", checks);
     if (failures > 0)
         fprintf(stderr, "interface: %lu failed\n", failures);

@@ -1,6 +1,7 @@
 /* Loading (01, Load). */
 #include "folgutan.h"
 
+#include "calls.h"
 #include "check.h"
 
 #include <stdio.h>

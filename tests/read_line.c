@@ -1,6 +1,7 @@
 /* Line reading (01, Lines and votes). */
 #include "folgutan.h"
 
+#include "calls.h"
 #include "check.h"
 
 #include <stdio.h>

@@ -1,6 +1,7 @@
 /* Sampling (01, Cell sampling). */
 #include "folgutan.h"
 
+#include "calls.h"
 #include "check.h"
 
 #include <stdio.h>

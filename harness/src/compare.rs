@@ -2,11 +2,13 @@
 
 pub mod basics;
 pub mod bounds;
+mod built;
 pub mod edges;
 pub mod gradient;
 mod lent;
 pub mod load;
 pub mod locate;
+mod met;
 pub mod narrow;
 pub mod read_line;
 pub mod sample;

@@ -36,15 +36,40 @@ pub fn compare(run: &Run) -> Outcome {
         let extra = rng.below(40);
         one(g, row, column, extra)?;
     }
+    let (row, column) = OTHER_RANK;
+    one(distinct(row, column)?, row, column, 7)?;
     if run.long {
-        // where trunc(0.55 m) in binary32 is not the exact one
         for kind in [0, 1, 8] {
-            one(values(rng, kind, 2418 * 2602), 2418, 2602, 7)?;
+            one(values(rng, kind, row * column), row, column, 7)?;
         }
         one(values(rng, 0, 4094 * 4094), 4094, 4094, 0)?;
         one(picture(rng, 1078, 1918), 1078, 1918, 0)?;
     }
     Ok(count.into())
+}
+
+/// Sides of a gradient whose sample has a size m where trunc(0.55 m) in binary32 is not the exact one.
+const OTHER_RANK: (usize, usize) = (2418, 2602);
+
+/// Values that all differ, from 0.03125 on, where nothing is clipped: a threshold from another rank
+/// is another value, and sets other points. An error where the two ranks would show no difference.
+fn distinct(row: usize, column: usize) -> Result<Vec<f32>, String> {
+    let count = row * column;
+    // a step that has no divisor in common with the count meets every place once
+    let g: Vec<f32> = (0..count)
+        .map(|at| f32::from_bits(0x3D00_0000 + (at * 1_000_003 % count) as u32))
+        .collect();
+    let mut sample: Vec<f32> = (row / 4..row * 3 / 4)
+        .flat_map(|i| &g[i * column..][column / 4..column * 3 / 4])
+        .copied()
+        .collect();
+    sample.sort_by(f32::total_cmp);
+    let m = sample.len();
+    let (rank, exact) = ((m as f32 * 0.55) as usize, m * 55 / 100);
+    if rank == exact || sample[rank] == sample[exact] {
+        return Err(format!("row {row}, column {column}: rank {rank} is like {exact}"));
+    }
+    Ok(g)
 }
 
 /// The gradient of random planes.

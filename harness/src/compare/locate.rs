@@ -1,13 +1,16 @@
 //! Locating beside `get_pos_pixel`: every field, the planes, the first edge picture and both score
 //! lists. The lists and the votes come from the probed copy, which must do as the unchanged file does.
 
+use super::built::{Built, End, DEPARTURES, LARGE};
 use super::lent::Lent;
+use super::met::{as_built, Met, Row};
 use super::values::UNFIT;
 use super::{Outcome, Run, Tally};
 use crate::original::load::{numbers, planes};
 use crate::original::locate::{traced, Traced};
-use crate::original::ImageBoard;
+use crate::original::{steps, ImageBoard};
 use crate::port::{self, Board, Located, Slices};
+use crate::quiet::caught;
 use crate::record::Record;
 use crate::rng::Rng;
 use crate::screens::{self, Drawn};
@@ -16,7 +19,12 @@ const LEAST: usize = 12;
 const MOST: usize = 4096;
 
 pub fn compare(run: &Run) -> Outcome {
-    let mut cases = Cases::new(run.seed);
+    let mut cases = Cases::new(run.seed)?;
+    cases.met.built = true;
+    for built in DEPARTURES.iter().chain(LARGE) {
+        cases.built(built)?;
+    }
+    cases.met.built = false;
     cases.screen(LEAST, LEAST, &screens::blank(LEAST, LEAST, 0))?;
     for _ in 0..run.choose(1_500, 110_000) {
         let (height, width) = (cases.rng.between(LEAST, 80), cases.rng.between(LEAST, 80));
@@ -60,11 +68,10 @@ pub fn compare(run: &Run) -> Outcome {
     Ok(Tally {
         cases: cases.count,
         note: format!(
-            "; answers {}; read after 0, 1, 2 and more narrowings: {:?}; answer 7 where the Rust \
-             panics on the rows: {}",
+            "; answers {}; read after 0, 1, 2 and more narrowings: {:?}{}",
             answers.join(", "),
             cases.read_after,
-            cases.far_panics
+            cases.met.note()?
         ),
     })
 }
@@ -143,12 +150,43 @@ impl Call {
     }
 }
 
+const TOO_SMALL: &str = "too small";
+const COLUMNS_NO_GAP: &str = "columns without a gap above 5";
+const COLUMNS_FAR: &str = "columns with e of 206 or more";
+const COLUMNS_FAR_ROWS_NO_GAP: &str = "the same, and rows without a gap above 5";
+const ROWS_NO_GAP: &str = "rows without a gap above 5";
+const ROWS_FAR: &str = "rows with e of 206 or more";
+/// A part of `COLUMNS_FAR`, as `ROWS_FAR` is too.
+const ROWS_READ: &str = "rows that read";
+const ANSWER: &str = "any screen";
+const READ: &str = "a screen that is read, answer 0";
+const NARROWED: &str = "a screen that is narrowed";
+const EDGES: &str = "answers 0 and 5 to 9";
+const SCORES: &str = "answers 0 and 6 to 9";
+
+/// Rows marked (run): the departures, and what is handed back beside the record.
+const ROWS: &[Row] = &[
+    (TOO_SMALL, &[]),
+    (COLUMNS_NO_GAP, &[]),
+    (COLUMNS_FAR, &[ROWS_READ, ROWS_FAR]),
+    (COLUMNS_FAR_ROWS_NO_GAP, &[]),
+    (ROWS_NO_GAP, &[]),
+    (ROWS_FAR, &[]),
+    (ANSWER, &[]),
+    (READ, &[]),
+    (NARROWED, &[]),
+    (EDGES, &[]),
+    (SCORES, &[]),
+];
+
 struct Cases {
     rng: Rng,
     count: u64,
     answers: [u64; 10],
     read_after: [u64; 4],
-    far_panics: u64,
+    met: Met,
+    /// Of the last screen that was looked at.
+    end: Option<End>,
 }
 
 /// What the Rust makes of a screen.
@@ -157,12 +195,55 @@ struct Wanted {
     planes: Vec<f32>,
     edges: Vec<Vec<bool>>,
     scores: Vec<usize>,
-    far_panic: bool,
+    returns: bool,
+    /// Whether the Rust leaves a pitch of the rows.
+    rows_read: bool,
 }
 
 impl Cases {
-    fn new(seed: u64) -> Cases {
-        Cases { rng: Rng::new(seed), count: 0, answers: [0; 10], read_after: [0; 4], far_panics: 0 }
+    fn new(seed: u64) -> Result<Cases, String> {
+        Ok(Cases {
+            rng: Rng::new(seed),
+            count: 0,
+            answers: [0; 10],
+            read_after: [0; 4],
+            met: Met::new("locating", ROWS)?,
+            end: None,
+        })
+    }
+
+    fn built(&mut self, built: &Built) -> Result<(), String> {
+        self.one(&built.pixels(), &Call::fitting(built.height, built.width))?;
+        as_built(&format!("{built:?}"), Some(built.end), self.end)
+    }
+
+    /// Counts a screen that was looked at.
+    fn ended(&mut self, end: End, rows_read: bool) {
+        let End { answer, returns, narrowed } = end;
+        self.end = Some(end);
+        self.answers[answer as usize] += 1;
+        self.met.count(ANSWER);
+        self.met.count(EDGES);
+        if answer != 5 {
+            self.met.count(SCORES);
+        }
+        if narrowed > 0 {
+            self.met.count(NARROWED);
+        }
+        match (answer, returns) {
+            (5, _) => self.met.count(TOO_SMALL),
+            (6, _) => self.met.count(COLUMNS_NO_GAP),
+            (7, true) => {
+                self.met.count_part(COLUMNS_FAR, if rows_read { ROWS_READ } else { ROWS_FAR })
+            }
+            (7, false) => self.met.count(COLUMNS_FAR_ROWS_NO_GAP),
+            (8, _) => self.met.count(ROWS_NO_GAP),
+            (9, _) => self.met.count(ROWS_FAR),
+            _ => {
+                self.read_after[(narrowed as usize).min(3)] += 1;
+                self.met.count(READ);
+            }
+        }
     }
 
     /// Noise, a drawn board with or without noise, one colour, or texture.
@@ -259,13 +340,11 @@ impl Cases {
                 scratch_u32: scratch_u32.slice(),
             },
         );
-        let area = call.given.height.saturating_mul(call.given.width);
-        let sides = call.given.height.saturating_add(call.given.width);
-        let scratch_kept = || {
+        let scratch_kept = |points: usize, words: usize| {
             scratch_f32
-                .beyond("scratch_f32", area)
-                .or_else(|| scratch_u8.beyond("scratch_u8", area))
-                .or_else(|| scratch_u32.beyond("scratch_u32", sides.saturating_mul(4)))
+                .beyond("scratch_f32", points)
+                .or_else(|| scratch_u8.beyond("scratch_u8", points))
+                .or_else(|| scratch_u32.beyond("scratch_u32", words))
         };
         if let Some(answer) = call.rule() {
             self.answers[answer as usize] += 1;
@@ -275,23 +354,20 @@ impl Cases {
                 .or_else(|| lent_planes.differs("planes", values))
                 .or_else(|| edges.differs("edges", []))
                 .or_else(|| scores.differs("scores", []))
-                .or_else(scratch_kept);
+                .or_else(|| scratch_kept(0, 0));
         }
         let want = match wanted(pixels, call) {
             Ok(want) => want,
             Err(found) => return Some(found),
         };
-        self.answers[want.located.answer as usize] += 1;
-        if want.located.answer == 0 {
-            self.read_after[(want.located.narrowed as usize).min(3)] += 1;
-        }
-        self.far_panics += want.far_panic as u64;
+        let Located { answer, narrowed, .. } = want.located;
+        self.ended(End { answer, returns: want.returns, narrowed }, want.rows_read);
         let zeros = std::iter::repeat(0.0).take(values.len() - want.planes.len());
         unlike(&want.located, &have)
             .or_else(|| lent_planes.differs("planes", want.planes.iter().copied().chain(zeros)))
             .or_else(|| edges.differs("edges", want.edges.iter().flatten().map(|&e| e as u8)))
             .or_else(|| scores.differs("scores", want.scores.iter().map(|&s| s as u32)))
-            .or_else(scratch_kept)
+            .or_else(|| scratch_kept(height * width, 4 * (height + width)))
     }
 }
 
@@ -320,19 +396,28 @@ fn wanted(pixels: &[u8], call: &Call) -> Result<Wanted, String> {
         [located.votesr, located.votesc] = run.votes();
     }
     let scores = run.seen.scores.map_or(vec![], |(columns, rows)| [columns, rows].concat());
-    let far_panic = answer == 7 && !run.whole;
-    Ok(Wanted { located, planes: run.planes, edges: run.seen.edges, scores, far_panic })
+    let (edges, returns, rows_read) = (run.seen.edges, run.whole, rust.pixelr != 0);
+    Ok(Wanted { located, planes: run.planes, edges, scores, returns, rows_read })
 }
 
-/// What docs/DIFFERENCES.md says of the Rust's record at 5, 7 and 9.
+/// What docs/DIFFERENCES.md says of the Rust's record: where it returns with pitches, all fields are
+/// written, those of either direction as the line reading of its scores gives them.
 fn departures(run: &Traced) -> Result<(), String> {
     let Traced { answer, whole, record: rust, .. } = run;
     let fresh = Record { height: rust.height, width: rust.width, ..Record::default() };
     let corner = run.seen.widened.map(|[r_1, _, c_1, _]| (r_1, c_1)) == Some((rust.r_1, rust.c_1));
+    let (columns, rows) = ((rust.pixelc, rust.c0, rust.c), (rust.pixelr, rust.r0, rust.r));
+    let reads = |list: &[usize], fields: (u32, usize, usize)| {
+        let read = caught(|| steps::line(list.to_vec()));
+        read.map(|(pitch, offset, count)| (pitch.to_bits(), offset, count)) == Some(fields)
+    };
+    let written = corner
+        && run.seen.scores.as_ref().is_some_and(|(c, r)| reads(c, columns) && reads(r, rows));
+    let far = (0, 0, usize::MAX);
     let as_said = match answer {
-        7 if *whole => corner && (rust.pixelc, rust.c0, rust.c) == (0, 0, usize::MAX),
-        9 => corner && (rust.pixelr, rust.r0, rust.r) == (0, 0, usize::MAX) && rust.pixelc != 0,
-        0 => corner,
+        7 if *whole => written && columns == far,
+        9 => written && rows == far && rust.pixelc != 0,
+        0 => written,
         // a panic or a quiet return leaves the record fresh
         _ => *rust == fresh,
     };

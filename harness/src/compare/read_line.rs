@@ -2,6 +2,7 @@
 //! from the probed copy. Refusals 1, 3 and 11 are held to the rule.
 
 use super::lent::Lent;
+use super::met::{as_built, Met, Row};
 use super::{Outcome, Run, Tally};
 use crate::original::{probed, steps};
 use crate::port::{self, Reading};
@@ -9,8 +10,11 @@ use crate::quiet::caught;
 use crate::rng::Rng;
 
 pub fn compare(run: &Run) -> Outcome {
-    let mut cases = Cases::new();
+    let mut cases = Cases::new()?;
     let rng = &mut Rng::new(run.seed);
+    cases.met.built = true;
+    built(&mut cases)?;
+    cases.met.built = false;
     // every list of length 4 to 9 with entries 0 to 3, or a part of them
     for len in 4..=9 {
         for code in 0u32..1 << (2 * len) {
@@ -37,8 +41,27 @@ pub fn compare(run: &Run) -> Outcome {
     }
     gaps(rng, &mut cases, run.choose(1, 20))?;
     refusals(rng, &mut cases)?;
-    let Cases { count, read, far, none, .. } = cases;
-    Ok(Tally { cases: count, note: format!("; {read} read, {none} answer 6, {far} answer 7") })
+    Ok(Tally { cases: cases.count, note: cases.met.note()? })
+}
+
+const NO_GAP: &str = "no gap above 5";
+const FAR: &str = "e of 206 or more";
+const READS: &str = "any list that reads";
+
+/// Rows marked (run).
+const ROWS: &[Row] = &[(NO_GAP, &[]), (FAR, &[]), (READS, &[])];
+
+/// A list for each row: zeros but for tens at these places.
+fn built(cases: &mut Cases) -> Result<(), String> {
+    let built: [(usize, &[usize], u32); 4] =
+        [(30, &[3, 13, 23], 0), (30, &[], 6), (30, &[3, 11], 6), (300, &[3, 209], 7)];
+    for (len, tens, answer) in built {
+        let mut list = vec![0; len];
+        tens.iter().for_each(|&at| list[at] = 10);
+        cases.one(&list)?;
+        as_built(&format!("the list of {len}, tens at {tens:?}"), answer, cases.answer)?;
+    }
+    Ok(())
 }
 
 fn random(rng: &mut Rng, most: usize) -> Vec<u32> {
@@ -132,15 +155,16 @@ fn refusals(rng: &mut Rng, cases: &mut Cases) -> Result<(), String> {
 
 struct Cases {
     count: u64,
-    read: u64,
-    none: u64,
-    far: u64,
+    met: Met,
+    /// To the last list.
+    answer: u32,
     board: probed::ImageBoard,
 }
 
 impl Cases {
-    fn new() -> Cases {
-        Cases { count: 0, read: 0, none: 0, far: 0, board: probed::nothing() }
+    fn new() -> Result<Cases, String> {
+        let met = Met::new("line reading", ROWS)?;
+        Ok(Cases { count: 0, met, answer: 0, board: probed::nothing() })
     }
 
     fn one(&mut self, list: &[u32]) -> Result<(), String> {
@@ -152,10 +176,11 @@ impl Cases {
         let mut lent = Lent::new(scratch);
         let have = port::read_line(list, lent.slice());
         let want = self.wanted(list, scratch)?;
+        self.answer = want.answer;
         match want.answer {
-            0 => self.read += 1,
-            6 => self.none += 1,
-            7 => self.far += 1,
+            0 => self.met.count(READS),
+            6 => self.met.count(NO_GAP),
+            7 => self.met.count(FAR),
             _ => (),
         }
         let key = |r: Reading| (r.answer, r.pitch.to_bits(), r.offset, r.count, r.votes);

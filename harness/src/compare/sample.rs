@@ -1,7 +1,8 @@
-//! Sampling beside `extra_save_cell`: bits, or its panic as refusal 12. What 01 refuses and the
-//! Rust does not is held to the rule, and counted where the Rust returns.
+//! Sampling beside `extra_save_cell`: bits, or its panic as refusal 12. What 01 refuses is held to
+//! the rule, and the Rust there to the values at the places of 01's formula.
 
 use super::lent::Lent;
+use super::met::{as_built, Met, Row};
 use super::values::{planes, UNFIT};
 use super::{Outcome, Run, Tally};
 use crate::original::steps;
@@ -22,9 +23,20 @@ struct Call {
     out: usize,
 }
 
+impl Call {
+    /// The six that are at most 4,096, in the order of `SIX`.
+    fn numbers(&mut self) -> [&mut usize; 6] {
+        let r = &mut self.record;
+        [&mut self.x, &mut self.y, &mut r.r_1, &mut r.c_1, &mut r.r0, &mut r.c0]
+    }
+}
+
 pub fn compare(run: &Run) -> Outcome {
     let rng = &mut Rng::new(run.seed);
-    let mut cases = Cases::default();
+    let mut cases = Cases::new()?;
+    cases.met.built = true;
+    built(&mut cases)?;
+    cases.met.built = false;
     for _ in 0..run.choose(60, 1_000) {
         let (height, width) = sides(rng);
         let values = planes(rng, 3 * height * width);
@@ -58,17 +70,86 @@ pub fn compare(run: &Run) -> Outcome {
         }
     }
     near_whole(rng, &mut cases, run)?;
-    let Cases { count, done, outside, pitch, size, zero } = cases;
-    if pitch == 0 || size == 0 || zero == 0 {
-        return Err("the Rust never returned where the port alone refuses".into());
+    let Cases { count, done, met, .. } = cases;
+    Ok(Tally { cases: count, note: format!("; {done} sampled{}", met.note()?) })
+}
+
+const PITCH: &str = "a pitch below 8.0, above 200.0, negative, 0 or no number";
+const NUMBER: &str = "x, y, r_1, c_1, r0 or c0 above 4,096, size 1 to 64";
+const NUMBER_SIZE_0: &str = "the same at size 0";
+const SIZE: &str = "a size above 64";
+const OUTSIDE: &str = "a sampled place is not in the picture";
+
+const SIX: &[&str] = &["x", "y", "r_1", "c_1", "r0", "c0"];
+
+/// Rows marked (run).
+const ROWS: &[Row] = &[
+    (PITCH, &["below 8.0", "above 200.0", "negative", "0", "no number"]),
+    (NUMBER, SIX),
+    (NUMBER_SIZE_0, SIX),
+    (SIZE, &[]),
+    (OUTSIDE, &[]),
+];
+
+/// The part of the pitches' row.
+fn kind(bits: u32) -> Option<&'static str> {
+    let pitch = f32::from_bits(bits);
+    if pitch.is_nan() {
+        Some("no number")
+    } else if pitch == 0.0 {
+        Some("0")
+    } else if pitch < 0.0 {
+        Some("negative")
+    } else if pitch < 8.0 {
+        Some("below 8.0")
+    } else {
+        (pitch > 200.0).then_some("above 200.0")
     }
-    Ok(Tally {
-        cases: count,
-        note: format!(
-            "; {done} sampled, {outside} answer 12; refused where the Rust returns: {pitch} by a \
-             pitch, {size} by a size above 64, {zero} at size 0 by a number"
-        ),
-    })
+}
+
+/// A call for each row, and for each part of one.
+fn built(cases: &mut Cases) -> Result<(), String> {
+    let (height, width, ten) = (230, 225, 10.0f32.to_bits());
+    let values: Vec<f32> = (0..3 * height * width).map(|at| at as f32 / 262144.0).collect();
+    let record = Record {
+        height,
+        width,
+        r_1: 5,
+        c_1: 7,
+        r0: 3,
+        c0: 2,
+        pixelr: ten,
+        pixelc: ten,
+        ..Record::default()
+    };
+    let fitting = Call { record, x: 0, y: 0, size: 5, out: 75 };
+    let mut one = |call: Call, end: (u32, bool)| {
+        cases.one(&call, &values)?;
+        as_built(&format!("{call:?}"), Some(end), cases.end)
+    };
+    one(fitting, (0, true))?;
+    for pitch in [4.0, 201.0, -40.0, 0.0, -0.0, f32::NAN] {
+        for (down, across) in [(true, false), (false, true), (true, true)] {
+            let mut call = fitting;
+            if down {
+                call.record.pixelr = pitch.to_bits();
+            }
+            if across {
+                call.record.pixelc = pitch.to_bits();
+            }
+            one(call, (10, true))?;
+        }
+    }
+    for which in 0..SIX.len() {
+        let mut call = fitting;
+        *call.numbers()[which] = MOST + 1;
+        one(call, (11, false))?;
+        call.size = 0;
+        one(call, (11, true))?;
+    }
+    one(Call { size: 65, out: 3 * 65 * 65, ..fitting }, (11, true))?;
+    one(Call { x: 40, ..fitting }, (12, false))?;
+    one(Call { y: 40, ..fitting }, (12, false))
 }
 
 /// Places that are whole numbers or next to one, where another order of the roundings shows: the
@@ -164,16 +245,8 @@ fn fitting(rng: &mut Rng, height: usize, width: usize) -> Call {
         out: 0,
     };
     if rng.below(8) == 0 {
-        let fields: [&mut usize; 6] = [
-            &mut call.x,
-            &mut call.y,
-            &mut call.record.r_1,
-            &mut call.record.c_1,
-            &mut call.record.r0,
-            &mut call.record.c0,
-        ];
         let which = rng.below(6);
-        *fields.into_iter().nth(which).unwrap() = rng.pick(&[MOST, MOST - 1, 0, 100, 1000]);
+        *call.numbers()[which] = rng.pick(&[MOST, MOST - 1, 0, 100, 1000]);
     }
     call.out = 3 * call.size * call.size + rng.pick(&[0, 0, 1, 40]);
     call
@@ -212,18 +285,43 @@ fn break_rules(rng: &mut Rng, call: &mut Call) {
     }
 }
 
-#[derive(Default)]
 struct Cases {
     count: u64,
     done: u64,
-    outside: u64,
-    /// Refused by the port alone.
-    pitch: u64,
-    size: u64,
-    zero: u64,
+    met: Met,
+    /// Of the last call: the answer, and whether the Rust returns.
+    end: Option<(u32, bool)>,
 }
 
 impl Cases {
+    fn new() -> Result<Cases, String> {
+        Ok(Cases { count: 0, done: 0, met: Met::new("sampling", ROWS)?, end: None })
+    }
+
+    /// Counts a call whose planes are fit, and which the Rust was run on.
+    fn ended(&mut self, mut call: Call, answer: u32, returns: bool) {
+        self.end = Some((answer, returns));
+        match (answer, returns) {
+            (0, _) => self.done += 1,
+            (12, _) => self.met.count(OUTSIDE),
+            (10, true) => {
+                let pitches = [call.record.pixelr, call.record.pixelc];
+                let kinds = pitches.into_iter().filter_map(kind);
+                kinds.for_each(|kind| self.met.count_part(PITCH, kind));
+            }
+            (11, true) if call.size > 64 => self.met.count(SIZE),
+            (11, _) if call.size <= 64 => {
+                let row = if call.size == 0 { NUMBER_SIZE_0 } else { NUMBER };
+                for (part, number) in SIX.iter().zip(call.numbers()) {
+                    if *number > MOST {
+                        self.met.count_part(row, part);
+                    }
+                }
+            }
+            _ => (),
+        }
+    }
+
     fn one(&mut self, call: &Call, planes: &[f32]) -> Result<(), String> {
         self.count += 1;
         self.differs(call, planes).map_or(Ok(()), |found| {
@@ -239,19 +337,16 @@ impl Cases {
         let fit =
             !matches!(refusal, Some(1 | 4)) && planes.len() >= 3 * record.height * record.width;
         // the Rust, where its planes can be built and a cell of that size can be held
-        let rust = (fit && size <= 100)
+        let run = fit && size <= 100;
+        let rust = run
             .then(|| caught(|| steps::board(&record, planes).extra_save_cell(x, y, size)))
             .flatten();
         let want = refusal.unwrap_or(if rust.is_some() { 0 } else { 12 });
-        match (want, &rust) {
-            (0, _) => self.done += 1,
-            (12, _) => self.outside += 1,
-            (10, Some(_)) => self.pitch += 1,
-            (11, Some(_)) if size > 64 => self.size += 1,
-            (11, Some(_)) if size == 0 => self.zero += 1,
-            (11, None) if size == 0 => return Some("size 0 panics in the Rust".into()),
-            (11, Some(_)) => return Some("a number above 4,096 is sampled by the Rust".into()),
-            _ => (),
+        if run {
+            if let Some(found) = departs(call, planes, want, rust.as_deref()) {
+                return Some(found);
+            }
+            self.ended(*call, want, rust.is_some());
         }
         if have != want {
             return Some(format!("answer: to be {want}, port {have}"));
@@ -269,6 +364,56 @@ impl Cases {
         }
         lent.differs("inner output", cell)
     }
+}
+
+/// Where the Rust does not do what docs/DIFFERENCES.md says at 10, 11 and 12.
+fn departs(call: &Call, planes: &[f32], answer: u32, rust: Option<&[f32]>) -> Option<String> {
+    if !matches!(answer, 10..=12) {
+        return None;
+    }
+    let size = call.size;
+    match rust {
+        None if size == 0 => return Some("size 0 panics in the Rust".into()),
+        Some(cell) if cell.len() != 3 * size * size => {
+            return Some(format!("{} values of the Rust at size {size}", cell.len()));
+        }
+        Some(_) if answer == 11 && (1..=64).contains(&size) => {
+            return Some("a number above 4,096 is sampled by the Rust".into());
+        }
+        _ => (),
+    }
+    match (values_at(call, planes), rust) {
+        (None, None) => None,
+        (None, Some(_)) => Some("the Rust samples a place that is not in the picture".into()),
+        (Some(_), None) => Some("the Rust panics, and each place is in the picture".into()),
+        (Some(want), Some(cell)) => {
+            let at = want.iter().zip(cell).position(|(a, b)| a.to_bits() != b.to_bits())?;
+            Some(format!("the Rust's value {at}: by its place {}, Rust {}", want[at], cell[at]))
+        }
+    }
+}
+
+/// The values at the places of 01's formula, or nothing where one is not in the picture. A negative
+/// place and one that is no number count as 0.
+fn values_at(call: &Call, planes: &[f32]) -> Option<Vec<f32>> {
+    let Call { record, x, y, size, .. } = *call;
+    let Record { height, width, r_1, c_1, r0, c0, pixelr, pixelc, .. } = record;
+    let places = |corner: usize, offset: usize, pitch: u32, cell: usize, side: usize| {
+        let pitch = f32::from_bits(pitch);
+        let start = (corner as f32 + offset as f32) + pitch * cell as f32;
+        let place = |i: usize| start + ((pitch / 2.0) / size as f32) * (2 * i + 1) as f32;
+        let whole = (0..size).map(place).map(|at| if at >= 0.0 { at as usize } else { 0 });
+        whole.map(|at| (at < side).then_some(at)).collect::<Option<Vec<usize>>>()
+    };
+    let rows = places(r_1, r0, pixelr, x, height)?;
+    let columns = places(c_1, c0, pixelc, y, width)?;
+    let mut out = Vec::with_capacity(3 * size * size);
+    for plane in planes[..3 * height * width].chunks(height * width) {
+        for row in &rows {
+            out.extend(columns.iter().map(|column| plane[row * width + column]));
+        }
+    }
+    Some(out)
 }
 
 /// The refusal that 01 asks for, but for 12.
