@@ -1,5 +1,6 @@
 -- 01, "Bounds scan". One rule serves the four directions. It goes along places, with m the distance that is left to the picture's edge
--- (of 10 columns column 5 has the distance 5 to the left and 4 to the right); `at p m` is the point that lies across at p and along at the distance m. lo to hi is the middle third across, without hi.
+-- (of 10 columns column 5 has the distance 5 to the left and 4 to the right); `at p m` is the point that lies across at p and along at the
+-- distance m. lo to hi is the middle third across, without hi.
 use Prim.Native.Nat.{ℕ, zero, suc, _-_, _*_, _/_}
 use mathlib.Core.Bool.{Bool, cond}
 use lib.Dec.{eqb, leb, ltb}

@@ -18,7 +18,7 @@ use Rattle.board.proofs.Sides.{neither}
 use Rattle.narrow.specs.Narrow.{narrow}
 use Rattle.narrow.proofs.Laws.{smaller, narrow-length, narrow-fit}
 use Rattle.bounds.proofs.Laws.{Around, around}
-use Rattle.narrowings.specs.Loop.{Stage, staged, first, pictureAt, boundsAt, thin, small, next, Last, oneTurn, looped, lastOf}
+use Rattle.narrowings.specs.Loop.{Stage, first, pictureAt, boundsAt, thin, small, next, Last, oneTurn, looped, lastOf}
 use Rattle.narrowings.specs.Inner.{Narrows}
 
 -- a picture that is not small
