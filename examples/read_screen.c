@@ -79,6 +79,7 @@ static const char *meaning(uint32_t answer)
     case FOLGUTAN_COLUMNS_TOO_FAR: return "columns too far apart";
     case FOLGUTAN_ROWS_NO_GAP: return "rows without a gap above 5";
     case FOLGUTAN_ROWS_TOO_FAR: return "rows too far apart";
+    case FOLGUTAN_BAD_FACTOR: return "a factor is not 2 to 5";
     default: return "unknown";
     }
 }
@@ -96,6 +97,9 @@ static void print_load(const folgutan_loaded *loaded, const float *planes)
            planes[at], planes[plane + at], planes[2 * plane + at]);
 }
 
+/* The factor that the Rust original narrows by. */
+enum { FACTOR = 3 };
+
 /* Locates the board in the loaded planes and prints it, with the middle of each
  * cell from plane 1. Answers 0 if a board was found. */
 static int print_board(folgutan_board board, float *planes, size_t planes_len)
@@ -107,9 +111,9 @@ static int print_board(folgutan_board board, float *planes, size_t planes_len)
     float *scratch_f32 = calloc(area, sizeof *scratch_f32);
     int found = 1;
     if (edges && scratch_u8 && scores && scratch_u32 && scratch_f32) {
-        folgutan_located l = folgutan_locate(board, planes, planes_len, edges, area, scores, sides,
-                                             scratch_f32, area, scratch_u8, area, scratch_u32,
-                                             4 * sides);
+        folgutan_located l = folgutan_locate(board, FACTOR, planes, planes_len, edges, area, scores,
+                                             sides, scratch_f32, area, scratch_u8, area,
+                                             scratch_u32, 4 * sides);
         printf("locate: answer %u, %s\n", (unsigned)l.answer, meaning(l.answer));
         if (l.answer == FOLGUTAN_DONE) {
             printf("board: %zu rows, %zu columns, corner (%zu, %zu), offsets %zu and %zu\n", l.board.r,

@@ -50,11 +50,17 @@ const ADDED: &[(&str, &[&str])] = &[
     ),
 ];
 
-/// A copy of the original in OUT_DIR with lines added, and none changed, that store locals.
+/// The line of the original that narrows, there once, and what the probed copy has for it: the
+/// factor of the run.
+const CHANGED: (&str, &str) =
+    ("            self.narrow(3);", "self.narrow(crate::original::probe::factor());");
+
+/// A copy of the original in OUT_DIR with lines added that store locals, and one line changed.
 fn probed(file: &Path) -> PathBuf {
     let text = fs::read_to_string(file).expect("the Rust original can be read");
     let mut out = String::new();
     let mut found = 0;
+    let mut changed = 0;
     for line in text.lines() {
         for (before, added) in ADDED {
             if line == *before {
@@ -65,10 +71,13 @@ fn probed(file: &Path) -> PathBuf {
                 }
             }
         }
-        out.push_str(line);
+        let own = line == CHANGED.0;
+        changed += own as usize;
+        out.push_str(if own { CHANGED.1 } else { line });
         out.push('\n');
     }
     assert_eq!(found, ADDED.len(), "each line to probe is in the Rust original once");
+    assert_eq!(changed, 1, "the line that narrows is in the Rust original once");
     let copy = PathBuf::from(env::var("OUT_DIR").expect("cargo sets it")).join("obr_probed.rs");
     fs::write(&copy, out).expect("the probed copy can be written");
     copy

@@ -1,7 +1,7 @@
 /* Folgutan: finds the cells of a board on a screen picture.
  *
  * Link with libfolgutan.a. Comments name sections of the scope paper as
- * "01, Load".
+ * "01, Load", and later requests as "02, R-1".
  *
  * Lent slices. A slice is passed as a pointer and the number of its entries.
  * - The pointer is never NULL, not even where the number is 0, and is aligned
@@ -37,6 +37,10 @@ extern "C" {
  * than a loaded one. */
 #define FOLGUTAN_LEAST_PLANE_SIDE 4
 
+/* Limits of the factor that locating narrows by (02, R-1). */
+#define FOLGUTAN_LEAST_FACTOR 2
+#define FOLGUTAN_MOST_FACTOR 5
+
 /* Limits of a list of scores: its length and its entries. */
 #define FOLGUTAN_LEAST_LIST 4
 #define FOLGUTAN_MOST_LIST 4096
@@ -64,6 +68,7 @@ extern "C" {
 #define FOLGUTAN_BAD_PITCH 10      /* a pitch is not 8.0 to 200.0 */
 #define FOLGUTAN_BAD_NUMBER 11     /* a number is above its limit */
 #define FOLGUTAN_OUTSIDE 12        /* a sampled place is not in the picture */
+#define FOLGUTAN_BAD_FACTOR 13     /* a factor is not 2 to 5 */
 
 /* Reading one list has the two answers of the columns. */
 #define FOLGUTAN_NO_GAP FOLGUTAN_COLUMNS_NO_GAP
@@ -127,8 +132,8 @@ uint32_t folgutan_gradient(size_t height, size_t width,
                            float *out, size_t out_len);
 
 /* What locating hands back. Quarters and votes are 0 unless the answer is 0;
- * narrowed is 0 after FOLGUTAN_BAD_SIDE, FOLGUTAN_SHORT_SLICE and
- * FOLGUTAN_BAD_VALUE. */
+ * narrowed is 0 after FOLGUTAN_BAD_FACTOR, FOLGUTAN_BAD_SIDE,
+ * FOLGUTAN_SHORT_SLICE and FOLGUTAN_BAD_VALUE. */
 typedef struct {
     folgutan_board board;
     uint32_t answer;
@@ -137,9 +142,16 @@ typedef struct {
     uint32_t narrowed;            /* how often the planes were narrowed */
 } folgutan_located;
 
-/* Finds a board in the planes of a screen (01, Locating).
+/* Finds a board in the planes of a screen (01, Locating; 02, R-1).
  *
  * board: only its sides, h and w, are looked at.
+ * factor: 2 to 5, the same for each narrowing of the call. Both sides are
+ *   divided by it, and rows and columns left over fall away. A point of the
+ *   narrowed planes is entry factor * factor / 2, rounded down and counted
+ *   from 0, of its factor by factor block sorted rising: the third of 4
+ *   values, the fifth of 9, the ninth of 16, the thirteenth of 25. Pass 3 for the reading that the call
+ *   gave before it took a factor. A screen that needs no narrowing reads the
+ *   same with every factor that its sides allow.
  * planes: 3 * h * w values, as loading leaves them.
  * edges: at least h * w bytes.
  * scores: at least h + w entries.
@@ -152,7 +164,10 @@ typedef struct {
  *   came in, also after a narrowing; the sides are those of the planes as they
  *   are left. The count of rows or of columns can be 0.
  * Refusals, the first that holds:
- *   FOLGUTAN_BAD_SIDE     h or w is outside 12 to 4096
+ *   FOLGUTAN_BAD_FACTOR   factor is outside 2 to 5
+ *   FOLGUTAN_BAD_SIDE     h or w is below 12, below 4 * factor (16 for 4, 20
+ *                         for 5), or above 4096: a screen that was loaded can
+ *                         be too small for its factor
  *   FOLGUTAN_SHORT_SLICE  one of the six slices is too short
  *   FOLGUTAN_BAD_VALUE    one of the first 3 * h * w plane values is not 0.0
  *                         to 1.0, or is -0.0
@@ -175,7 +190,7 @@ typedef struct {
  * - scores start with the column scores, followed by the row scores; after
  *   FOLGUTAN_TOO_SMALL they are unchanged.
  * Entries further on keep their content. */
-folgutan_located folgutan_locate(folgutan_board board,
+folgutan_located folgutan_locate(folgutan_board board, size_t factor,
                                  float *planes, size_t planes_len,
                                  uint8_t *edges, size_t edges_len,
                                  uint32_t *scores, size_t scores_len,

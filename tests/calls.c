@@ -84,6 +84,7 @@ uint32_t measured_gradient(size_t height, size_t width, const float *planes, siz
 
 typedef struct {
     folgutan_board board;
+    size_t factor;
     float *planes, *scratch_f32;
     uint8_t *edges, *scratch_u8;
     uint32_t *scores, *scratch_u32;
@@ -94,22 +95,24 @@ typedef struct {
 static void run_locate(void *with)
 {
     locate_call *c = with;
-    c->out = folgutan_locate(c->board, c->planes, c->planes_len, c->edges, c->edges_len, c->scores,
-                             c->scores_len, c->scratch_f32, c->scratch_f32_len, c->scratch_u8,
-                             c->scratch_u8_len, c->scratch_u32, c->scratch_u32_len);
+    c->out = folgutan_locate(c->board, c->factor, c->planes, c->planes_len, c->edges, c->edges_len,
+                             c->scores, c->scores_len, c->scratch_f32, c->scratch_f32_len,
+                             c->scratch_u8, c->scratch_u8_len, c->scratch_u32, c->scratch_u32_len);
 }
 
-folgutan_located measured_locate(folgutan_board board, float *planes, size_t planes_len,
-                                 uint8_t *edges, size_t edges_len, uint32_t *scores,
-                                 size_t scores_len, float *scratch_f32, size_t scratch_f32_len,
-                                 uint8_t *scratch_u8, size_t scratch_u8_len,
-                                 uint32_t *scratch_u32, size_t scratch_u32_len)
+folgutan_located measured_locate(folgutan_board board, size_t factor, float *planes,
+                                 size_t planes_len, uint8_t *edges, size_t edges_len,
+                                 uint32_t *scores, size_t scores_len, float *scratch_f32,
+                                 size_t scratch_f32_len, uint8_t *scratch_u8,
+                                 size_t scratch_u8_len, uint32_t *scratch_u32,
+                                 size_t scratch_u32_len)
 {
-    locate_call c = {.board = board, .planes = planes, .planes_len = planes_len, .edges = edges,
-                     .edges_len = edges_len, .scores = scores, .scores_len = scores_len,
-                     .scratch_f32 = scratch_f32, .scratch_f32_len = scratch_f32_len,
-                     .scratch_u8 = scratch_u8, .scratch_u8_len = scratch_u8_len,
-                     .scratch_u32 = scratch_u32, .scratch_u32_len = scratch_u32_len};
+    locate_call c = {.board = board, .factor = factor, .planes = planes, .planes_len = planes_len,
+                     .edges = edges, .edges_len = edges_len, .scores = scores,
+                     .scores_len = scores_len, .scratch_f32 = scratch_f32,
+                     .scratch_f32_len = scratch_f32_len, .scratch_u8 = scratch_u8,
+                     .scratch_u8_len = scratch_u8_len, .scratch_u32 = scratch_u32,
+                     .scratch_u32_len = scratch_u32_len};
     measure(LOCATE, run_locate, &c);
     count(LOCATE, c.out.answer);
     return c.out;

@@ -9,11 +9,12 @@ folgutan_loaded measured_load(size_t height, size_t width, const uint8_t *pixels
                               size_t pixels_len, float *planes, size_t planes_len);
 uint32_t measured_gradient(size_t height, size_t width, const float *planes, size_t planes_len,
                            float *out, size_t out_len);
-folgutan_located measured_locate(folgutan_board board, float *planes, size_t planes_len,
-                                 uint8_t *edges, size_t edges_len, uint32_t *scores,
-                                 size_t scores_len, float *scratch_f32, size_t scratch_f32_len,
-                                 uint8_t *scratch_u8, size_t scratch_u8_len,
-                                 uint32_t *scratch_u32, size_t scratch_u32_len);
+folgutan_located measured_locate(folgutan_board board, size_t factor, float *planes,
+                                 size_t planes_len, uint8_t *edges, size_t edges_len,
+                                 uint32_t *scores, size_t scores_len, float *scratch_f32,
+                                 size_t scratch_f32_len, uint8_t *scratch_u8,
+                                 size_t scratch_u8_len, uint32_t *scratch_u32,
+                                 size_t scratch_u32_len);
 folgutan_reading measured_read_line(const uint32_t *list, size_t list_len, uint32_t *scratch,
                                     size_t scratch_len);
 uint32_t measured_sample(folgutan_board board, const float *planes, size_t planes_len, size_t x,
@@ -30,7 +31,7 @@ uint32_t measured_sample(folgutan_board board, const float *planes, size_t plane
 
 /* Of one call: the most stack that it took, and how often it gave each answer since the counts were
  * last cleared. */
-enum { ANSWERS = 13 };
+enum { ANSWERS = 14 };
 typedef struct {
     const char *name;
     size_t most_stack;

@@ -52,8 +52,9 @@ _Static_assert(FOLGUTAN_COLUMNS_NO_GAP == 6 && FOLGUTAN_COLUMNS_TOO_FAR == 7, "a
 _Static_assert(FOLGUTAN_ROWS_NO_GAP == 8 && FOLGUTAN_ROWS_TOO_FAR == 9, "answers");
 _Static_assert(FOLGUTAN_NO_GAP == 6 && FOLGUTAN_TOO_FAR == 7, "answers");
 _Static_assert(FOLGUTAN_BAD_PITCH == 10 && FOLGUTAN_BAD_NUMBER == 11, "answers");
-_Static_assert(FOLGUTAN_OUTSIDE == 12, "answers");
+_Static_assert(FOLGUTAN_OUTSIDE == 12 && FOLGUTAN_BAD_FACTOR == 13, "answers");
 _Static_assert(FOLGUTAN_LEAST_PLANE_SIDE == 4 && FOLGUTAN_MOST_SIZE == 64, "limits");
+_Static_assert(FOLGUTAN_LEAST_FACTOR == 2 && FOLGUTAN_MOST_FACTOR == 5, "limits");
 _Static_assert(FOLGUTAN_LEAST_LIST == 4 && FOLGUTAN_MOST_LIST == 4096, "limits");
 _Static_assert(FOLGUTAN_MOST_SCORE == 4096 && FOLGUTAN_MOST_NUMBER == 4096, "limits");
 
@@ -126,7 +127,7 @@ static const struct {
 } parts[] = {
     {LOAD, test_load, "0 1 2 3"},
     {GRADIENT, test_gradient, "0 1 3 4"},
-    {LOCATE, test_locate, "0 1 3 4 5 6 7 8 9"},
+    {LOCATE, test_locate, "0 1 3 4 5 6 7 8 9 13"},
     {READ_LINE, test_read_line, "0 1 3 6 7 11"},
     {SAMPLE, test_sample, "0 1 3 4 10 11 12"},
 };

@@ -1,4 +1,4 @@
-/* Locating (01, Locating). */
+/* Locating (01, Locating; 02, R-1). */
 #include "folgutan.h"
 
 #include "calls.h"
@@ -8,9 +8,10 @@
 #include <stdlib.h>
 #include <string.h>
 
-/* A call: the record, the lengths of the six slices, and a value put into the planes. */
+/* A call: the record, the factor, the lengths of the six slices, and a value put into the planes. */
 typedef struct {
     folgutan_board board;
+    size_t factor;
     size_t planes, edges, scores, scratch_f32, scratch_u8, scratch_u32;
     size_t bad;
     uint32_t bits;
@@ -18,7 +19,9 @@ typedef struct {
 
 #define NOWHERE SIZE_MAX
 
-static call fitting(size_t height, size_t width)
+enum { LEAST = FOLGUTAN_LEAST_FACTOR, MOST = FOLGUTAN_MOST_FACTOR };
+
+static call fitting(size_t factor, size_t height, size_t width)
 {
     size_t area = height * width, sides = height + width;
     call c = {
@@ -26,6 +29,7 @@ static call fitting(size_t height, size_t width)
         .board = {.height = height, .width = width, .r_1 = SIZE_MAX, .c_1 = 5, .r0 = 77,
                   .c0 = SIZE_MAX, .r = 9, .c = 8, .pixelr = float_of(0x7FA00001),
                   .pixelc = -1.0f},
+        .factor = factor,
         .planes = 3 * area, .edges = area, .scores = sides,
         .scratch_f32 = area, .scratch_u8 = area, .scratch_u32 = 4 * sides, .bad = NOWHERE,
     };
@@ -35,7 +39,6 @@ static call fitting(size_t height, size_t width)
 /* What is left behind. */
 typedef struct {
     folgutan_located located;
-    float *before;
     lent_floats planes;
     uint8_t *edges;
     uint32_t *scores;
@@ -65,8 +68,6 @@ static left locate(const float *values, size_t height, size_t width, call c)
     size_t own = 3 * height * width;
     for (size_t at = 0; at < c.planes && at < own; at++)
         out.planes.at[at] = at == c.bad ? float_of(c.bits) : values[at];
-    out.before = memory(c.planes + 2 * MARGIN, sizeof(float));
-    memcpy(out.before, out.planes.whole, (c.planes + 2 * MARGIN) * sizeof(float));
     out.edges = memory(c.edges + MARGIN, 1);
     out.scores = memory(c.scores + MARGIN, sizeof(uint32_t));
     for (size_t at = 0; at < c.edges + MARGIN; at++)
@@ -79,9 +80,9 @@ static left locate(const float *values, size_t height, size_t width, call c)
     memset(scratch_f32, SCRATCH, c.scratch_f32 * sizeof *scratch_f32);
     memset(scratch_u8, SCRATCH, c.scratch_u8);
     memset(scratch_u32, SCRATCH, c.scratch_u32 * sizeof *scratch_u32);
-    out.located = folgutan_locate(c.board, out.planes.at, c.planes, out.edges, c.edges, out.scores,
-                                  c.scores, scratch_f32, c.scratch_f32, scratch_u8, c.scratch_u8,
-                                  scratch_u32, c.scratch_u32);
+    out.located = folgutan_locate(c.board, c.factor, out.planes.at, c.planes, out.edges, c.edges,
+                                  out.scores, c.scores, scratch_f32, c.scratch_f32, scratch_u8,
+                                  c.scratch_u8, scratch_u32, c.scratch_u32);
     out.scratch_kept = all_are(scratch_f32, c.scratch_f32 * sizeof *scratch_f32)
                        && all_are(scratch_u8, c.scratch_u8)
                        && all_are(scratch_u32, c.scratch_u32 * sizeof *scratch_u32);
@@ -94,7 +95,6 @@ static left locate(const float *values, size_t height, size_t width, call c)
 static void drop(left l)
 {
     free(l.planes.whole);
-    free(l.before);
     free(l.edges);
     free(l.scores);
 }
@@ -115,101 +115,267 @@ static int zeros_but_answer(folgutan_located l)
     return l.quarterr == 0 && l.quarterc == 0 && l.votesr == 0 && l.votesc == 0;
 }
 
+/* The planes are as the call was handed them. */
+static int planes_kept(left l, const float *values, size_t own, call c)
+{
+    size_t filled = c.planes < own ? c.planes : own;
+    int same = kept(l.planes, filled);
+    for (size_t at = 0; at < filled; at++)
+        same &= bits_of(l.planes.at[at]) == (at == c.bad ? c.bits : bits_of(values[at]));
+    return same;
+}
+
 /* A refusal that leaves everything as it was. */
 static void refused(const char *name, const float *values, size_t height, size_t width, call c,
                     uint32_t answer)
 {
-    char where[120];
-    snprintf(where, sizeof where, "locate, %s: sides %zu and %zu", name, c.board.height,
-             c.board.width);
+    char where[160];
+    snprintf(where, sizeof where, "locate, %s: sides %zu and %zu, factor %zu", name,
+             c.board.height, c.board.width, c.factor);
     left l = locate(values, height, width, c);
     check(l.located.answer == answer, where, "answer");
     check(memcmp(&l.located.board, &c.board, sizeof c.board) == 0, where, "record as given");
     check(zeros_but_answer(l.located) && l.located.narrowed == 0, where, "zeros");
-    check(memcmp(l.before, l.planes.whole, (c.planes + 2 * MARGIN) * sizeof(float)) == 0, where,
-          "planes unchanged");
+    check(planes_kept(l, values, 3 * height * width, c), where, "planes unchanged");
     check(rest_kept(l, c, 0, 0), where, "edges and scores unchanged");
     check(l.scratch_kept, where, "scratch unchanged");
     drop(l);
 }
 
-static void refusals(void)
-{
-    enum { height = 14, width = 13, area = height * width };
-    static float values[3 * area];
-    for (size_t at = 0; at < COUNT(values); at++)
-        values[at] = (float)(at * 7919 % 256) / 255.0f;
+/* The screen that the refused calls are handed: of sides that every factor takes. */
+enum { HEIGHT = 22, WIDTH = 21, AREA = HEIGHT * WIDTH };
 
-    static const size_t bad[] = {0, 1, 4, 11, 4097, (size_t)1 << 32, (size_t)1 << 63, SIZE_MAX};
-    for (size_t at = 0; at < COUNT(bad); at++)
+static const size_t bad_factors[] = {0, 1, 6, 7, (size_t)1 << 32, (size_t)1 << 62, SIZE_MAX};
+static const size_t bad_sides[] = {0, 1, 4, 11, 4097, (size_t)1 << 32, (size_t)1 << 63, SIZE_MAX};
+static const uint32_t unfit[] = {0x3F800001, 0x80000000, 0xBF800000, 0x7F800000, 0xFF800000,
+                                 0x7FC00000, 0xFFC00000};
+static const size_t unfit_at[] = {0, AREA, 3 * AREA - 1};
+
+/* The least side that is taken with a factor. */
+static const size_t least_side[] = {[2] = 12, [3] = 12, [4] = 16, [5] = 20};
+
+/* The height, the width or both. */
+static void set_sides(call *c, size_t turn, size_t side)
+{
+    if (turn != 0)
+        c->board.height = side;
+    if (turn != 1)
+        c->board.width = side;
+}
+
+static size_t *length_of(call *c, size_t slice)
+{
+    size_t *lengths[] = {&c->planes,      &c->edges,      &c->scores,
+                         &c->scratch_f32, &c->scratch_u8, &c->scratch_u32};
+    return lengths[slice % COUNT(lengths)];
+}
+
+enum { SLICES = 6 };
+
+/* One fault, of every kind, with a factor that is fit. */
+static void single_faults(const float *values, size_t factor)
+{
+    for (size_t at = 0; at <= COUNT(bad_sides); at++)
         for (size_t turn = 0; turn < 3; turn++) {
-            call c = fitting(height, width);
-            if (turn != 0)
-                c.board.height = bad[at];
-            if (turn != 1)
-                c.board.width = bad[at];
-            refused("bad side", values, height, width, c, FOLGUTAN_BAD_SIDE);
+            call c = fitting(factor, HEIGHT, WIDTH);
+            set_sides(&c, turn, at < COUNT(bad_sides) ? bad_sides[at] : least_side[factor] - 1);
+            refused("bad side", values, HEIGHT, WIDTH, c, FOLGUTAN_BAD_SIDE);
             c.planes = c.edges = c.scores = c.scratch_f32 = c.scratch_u8 = c.scratch_u32 = 0;
-            refused("bad side, no slices", values, height, width, c, FOLGUTAN_BAD_SIDE);
-            c = fitting(height, width);
-            c.board.height = bad[at];
-            c.bad = 3;
-            c.bits = 0x7FC00000;
-            refused("bad side and value", values, height, width, c, FOLGUTAN_BAD_SIDE);
+            refused("bad side, no slices", values, HEIGHT, WIDTH, c, FOLGUTAN_BAD_SIDE);
         }
-    for (size_t field = 0; field < 6; field++)
-        for (size_t turn = 0; turn < 3; turn++) {
-            call c = fitting(height, width);
-            size_t *lengths[] = {&c.planes,      &c.edges,      &c.scores,
-                                 &c.scratch_f32, &c.scratch_u8, &c.scratch_u32};
-            *lengths[field] = turn == 0 ? *lengths[field] - 1 : 0;
-            if (turn == 2) {
-                c.bad = 0;
-                c.bits = 0x80000000;
-            }
-            refused("a short slice", values, height, width, c, FOLGUTAN_SHORT_SLICE);
-        }
-    static const uint32_t unfit[] = {0x3F800001, 0x80000000, 0xBF800000, 0x7F800000, 0xFF800000,
-                                     0x7FC00000, 0xFFC00000};
-    static const size_t places[] = {0, area, 3 * area - 1};
-    for (size_t p = 0; p < COUNT(places); p++)
+    for (size_t slice = 0; slice < SLICES; slice++) {
+        call c = fitting(factor, HEIGHT, WIDTH);
+        *length_of(&c, slice) -= 1;
+        refused("a short slice", values, HEIGHT, WIDTH, c, FOLGUTAN_SHORT_SLICE);
+        *length_of(&c, slice) = 0;
+        refused("an empty slice", values, HEIGHT, WIDTH, c, FOLGUTAN_SHORT_SLICE);
+    }
+    for (size_t p = 0; p < COUNT(unfit_at); p++)
         for (size_t v = 0; v < COUNT(unfit); v++) {
-            call c = fitting(height, width);
-            c.bad = places[p];
+            call c = fitting(factor, HEIGHT, WIDTH);
+            c.bad = unfit_at[p];
             c.bits = unfit[v];
-            refused("a bad value", values, height, width, c, FOLGUTAN_BAD_VALUE);
+            refused("a bad value", values, HEIGHT, WIDTH, c, FOLGUTAN_BAD_VALUE);
         }
 }
 
-/* One colour: narrowed once, then too small. Entries further on keep their content. */
-static void too_small(size_t height, size_t width, size_t more)
+/* Faults, in the order in which they are looked for. */
+static const uint32_t faults[] = {FOLGUTAN_BAD_FACTOR, FOLGUTAN_BAD_SIDE, FOLGUTAN_SHORT_SLICE,
+                                  FOLGUTAN_BAD_VALUE};
+enum { SETS = 1 << 4 };
+
+/* The call with a set of faults, a bit each; the turn picks among faults of one kind. */
+static call with_faults(size_t factor, size_t set, size_t turn)
+{
+    call c = fitting(factor, HEIGHT, WIDTH);
+    if (set & 1)
+        c.factor = bad_factors[turn % COUNT(bad_factors)];
+    if (set & 2)
+        set_sides(&c, turn % 3,
+                  turn % 2 ? bad_sides[turn % COUNT(bad_sides)] : least_side[factor] - 1);
+    if (set & 4)
+        *length_of(&c, turn) -= 1;
+    if (set & 8) {
+        /* not the last place, which a short slice lacks */
+        c.bad = unfit_at[turn % 2];
+        c.bits = unfit[turn % COUNT(unfit)];
+    }
+    return c;
+}
+
+/* Of several faults the first answers. */
+static void sets_of_faults(const float *values, size_t factor)
+{
+    for (size_t set = 1; set < SETS; set++)
+        for (size_t turn = 0; turn < 12; turn++) {
+            size_t first = 0;
+            while (!(set >> first & 1))
+                first++;
+            refused("faults together", values, HEIGHT, WIDTH, with_faults(factor, set, turn),
+                    faults[first]);
+        }
+}
+
+static void refusals(void)
+{
+    static float values[3 * AREA];
+    for (size_t at = 0; at < COUNT(values); at++)
+        values[at] = (float)(at * 7919 % 256) / 255.0f;
+    for (size_t at = 0; at < COUNT(bad_factors); at++)
+        refused("bad factor", values, HEIGHT, WIDTH, fitting(bad_factors[at], HEIGHT, WIDTH),
+                FOLGUTAN_BAD_FACTOR);
+    for (size_t factor = LEAST; factor <= MOST; factor++) {
+        single_faults(values, factor);
+        sets_of_faults(values, factor);
+    }
+}
+
+/* Screens of one colour: how often they are narrowed before they are too small, and the sides that
+ * are left. A side of 67 * factor is the least that is narrowed twice; the first side of each factor
+ * is the least that is taken. Slices are longer than asked for by `more`. */
+static const struct blank {
+    size_t factor, height, width, narrowed, h, w, more;
+} blanks[] = {
+    {2, 12, 12, 1, 6, 6, 0},         {2, 133, 133, 1, 66, 66, 7},
+    {2, 134, 134, 2, 33, 33, 0},     {2, 4096, 4096, 6, 64, 64, 3},
+    {2, 12, 137, 1, 6, 68, 1},       {2, 4095, 13, 1, 2047, 6, 0},
+    {3, 12, 12, 1, 4, 4, 0},         {3, 200, 200, 1, 66, 66, 7},
+    {3, 201, 201, 2, 22, 22, 0},     {3, 4096, 4096, 4, 50, 50, 3},
+    {3, 13, 14, 1, 4, 4, 7},         {3, 200, 203, 1, 66, 67, 100},
+    {3, 12, 4096, 1, 4, 1365, 3},    {4, 16, 16, 1, 4, 4, 0},
+    {4, 267, 267, 1, 66, 66, 7},     {4, 268, 268, 2, 16, 16, 0},
+    {4, 4096, 4096, 3, 64, 64, 3},   {4, 16, 31, 1, 4, 7, 1},
+    {4, 4096, 16, 1, 1024, 4, 0},    {5, 20, 20, 1, 4, 4, 0},
+    {5, 334, 334, 1, 66, 66, 7},     {5, 335, 335, 2, 13, 13, 0},
+    {5, 4096, 4096, 3, 32, 32, 3},   {5, 24, 20, 1, 4, 4, 1},
+    {5, 20, 4096, 1, 4, 819, 0},
+};
+
+static void too_small(struct blank b)
 {
     char where[120];
-    snprintf(where, sizeof where, "locate of one colour, sides %zu and %zu", height, width);
-    size_t area = height * width, h = height / 3, w = width / 3;
+    snprintf(where, sizeof where, "locate of one colour, sides %zu and %zu, factor %zu", b.height,
+             b.width, b.factor);
+    size_t area = b.height * b.width, points = (b.height - 2) * (b.width - 2);
     float *values = memory(3 * area, sizeof *values);
     for (size_t at = 0; at < 3 * area; at++)
         values[at] = 0.25f;
-    call c = fitting(height, width);
-    c.planes += more;
-    c.edges += more;
-    c.scores += more;
-    left l = locate(values, height, width, c);
+    call c = fitting(b.factor, b.height, b.width);
+    c.planes += b.more;
+    c.edges += b.more;
+    c.scores += b.more;
+    left l = locate(values, b.height, b.width, c);
     check(l.located.answer == FOLGUTAN_TOO_SMALL, where, "answer");
-    check(zeros_but_answer(l.located) && l.located.narrowed == 1, where, "narrowed once");
+    check(zeros_but_answer(l.located) && l.located.narrowed == b.narrowed, where, "narrowings");
     folgutan_board wanted = c.board;
-    wanted.height = h;
-    wanted.width = w;
+    wanted.height = b.h;
+    wanted.width = b.w;
     check(memcmp(&l.located.board, &wanted, sizeof wanted) == 0, where, "record with new sides");
     int planes = 1, edges = 1;
     for (size_t at = 0; at < 3 * area; at++)
-        planes &= bits_of(l.planes.at[at]) == (at < 3 * h * w ? 0x3E800000u : 0u);
-    for (size_t at = 0; at < (height - 2) * (width - 2); at++)
+        planes &= bits_of(l.planes.at[at]) == (at < 3 * b.h * b.w ? 0x3E800000u : 0u);
+    for (size_t at = 0; at < points; at++)
         edges &= l.edges[at] == 0;
     check(planes, where, "narrowed planes, then 0.0");
     check(kept(l.planes, 3 * area), where, "plane entries further on");
     check(edges, where, "no edges");
-    check(rest_kept(l, c, (height - 2) * (width - 2), 0), where, "entries further on");
+    check(rest_kept(l, c, points, 0), where, "entries further on");
+    drop(l);
+    free(values);
+}
+
+/* The entry of 0 to factor * factor - 1, sorted, that a block becomes. */
+static const uint8_t middle[] = {[2] = 2, [3] = 4, [4] = 8, [5] = 12};
+
+/* Blocks of unlike bytes above and below a flat bar, which the scan does not leave. */
+enum { BLOCKS = 60, FLAT = 7, HALF_BAR = 8 };
+
+static int in_flat(size_t factor, size_t block_row)
+{
+    return block_row * factor + factor + HALF_BAR > BLOCKS / 2
+           && block_row * factor < BLOCKS / 2 + HALF_BAR + MOST;
+}
+
+static uint8_t block_byte(size_t factor, size_t block_row)
+{
+    return in_flat(factor, block_row) ? FLAT : middle[factor];
+}
+
+/* The bytes 0 to n - 1, each once, in an order that goes on with the state. */
+static void shuffled(uint8_t *bytes, size_t n, uint32_t *state)
+{
+    for (size_t at = 0; at < n; at++) {
+        *state = *state * 1664525u + 1013904223u;
+        size_t other = (*state >> 8) % (at + 1);
+        bytes[at] = bytes[other];
+        bytes[other] = (uint8_t)at;
+    }
+}
+
+/* Each block holds the bytes 0 to factor * factor - 1 in an order of its own; rows and columns left
+ * over are 1.0, which no block becomes. */
+static float *draw_blocks(size_t factor, size_t height, size_t width)
+{
+    size_t all = 3 * height * width, across = BLOCKS / factor;
+    float *values = memory(all, sizeof *values);
+    uint32_t state = 1;
+    for (size_t at = 0; at < all; at++)
+        values[at] = 1.0f;
+    for (size_t block = 0; block < 3 * across * across; block++) {
+        size_t k = block / (across * across), i = block / across % across, j = block % across;
+        uint8_t bytes[25];
+        shuffled(bytes, factor * factor, &state);
+        for (size_t n = 0; n < factor * factor; n++) {
+            size_t row = i * factor + n / factor, column = j * factor + n % factor;
+            values[(k * height + row) * width + column] =
+                (float)(in_flat(factor, i) ? FLAT : bytes[n]) / 255.0f;
+        }
+    }
+    return values;
+}
+
+/* Blocks become their middle byte; `rows` and `columns` left over fall away. */
+static void narrowed_blocks(size_t factor, size_t rows, size_t columns)
+{
+    char where[120];
+    snprintf(where, sizeof where, "locate of blocks, factor %zu, %zu rows and %zu columns over",
+             factor, rows, columns);
+    size_t height = BLOCKS + rows, width = BLOCKS + columns, side = BLOCKS / factor;
+    size_t all = 3 * height * width;
+    call c = fitting(factor, height, width);
+    c.planes += 5;
+    float *values = draw_blocks(factor, height, width);
+    left l = locate(values, height, width, c);
+    check(l.located.answer == FOLGUTAN_TOO_SMALL && l.located.narrowed == 1, where,
+          "too small after one narrowing");
+    check(l.located.board.height == side && l.located.board.width == side, where, "sides");
+    int planes = 1;
+    for (size_t at = 0; at < all; at++) {
+        float byte = (float)block_byte(factor, at / side % side);
+        planes &= bits_of(l.planes.at[at]) == bits_of(at < 3 * side * side ? byte / 255.0f : 0.0f);
+    }
+    check(planes, where, "middle bytes, then 0.0");
+    check(kept(l.planes, all), where, "plane entries further on");
     drop(l);
     free(values);
 }
@@ -241,33 +407,34 @@ static uint8_t level(drawn d, size_t row, size_t column)
     return i + d.rim >= d.down || j + d.rim >= d.across ? SHADE : FACE;
 }
 
-/* A screen: the board alone, or at the top left of one three times as long and as wide, under blocks
- * of 11 by 11 points and a flat bar across, which the scan does not cross and a narrowing closes. */
+/* A screen: the board alone (times 1), or at the top left of one so many times as long and as wide,
+ * under blocks of 11 by 11 points and a flat bar across, which the scan does not cross and a
+ * narrowing by as much closes. */
 typedef struct {
     drawn board;
-    int textured;
+    size_t times;
 } screen;
 
 enum { BLOCK = 11, BAR = 9 };
 
 static size_t height_of(screen s)
 {
-    return s.textured ? 3 * s.board.height : s.board.height;
+    return s.times * s.board.height;
 }
 
 /* One column more falls away in a narrowing. */
 static size_t width_of(screen s)
 {
-    return s.textured ? 3 * s.board.width + 1 : s.board.width;
+    return s.times * s.board.width + (s.times > 1);
 }
 
 static uint8_t point(screen s, size_t row, size_t column)
 {
     size_t bar = height_of(s) / 2 - BAR / 2;
+    if (s.times > 1 && row >= bar && row < bar + BAR)
+        return 90;
     if (row < s.board.height && column < s.board.width)
         return level(s.board, row, column);
-    if (row >= bar && row < bar + BAR)
-        return 90;
     uint32_t block = (uint32_t)(row / BLOCK * 37 + column / BLOCK * 101);
     return (uint8_t)(block * 2654435761u >> 24);
 }
@@ -288,21 +455,22 @@ static int rising(const void *a, const void *b)
     return (x > y) - (x < y);
 }
 
-/* The planes narrowed once by the rule (01, Narrowing), then 0.0 up to their old length. */
-static float *narrowed_once(const float *values, size_t height, size_t width)
+/* The planes narrowed once by the rule (02, R-1), then 0.0 up to their old length. */
+static float *narrowed_once(const float *values, size_t height, size_t width, size_t factor)
 {
-    size_t h = height / 3, w = width / 3;
+    size_t h = height / factor, w = width / factor, n = factor * factor;
     float *out = memory(3 * height * width, sizeof *out);
     for (size_t at = 0; at < 3 * height * width; at++) {
-        float nine[9];
+        float block[25];
         out[at] = 0.0f;
         if (at >= 3 * h * w)
             continue;
         size_t k = at / (h * w), i = at / w % h, j = at % w;
-        for (size_t n = 0; n < 9; n++)
-            nine[n] = values[(k * height + 3 * i + n / 3) * width + 3 * j + n % 3];
-        qsort(nine, 9, sizeof *nine, rising);
-        out[at] = nine[4];
+        for (size_t p = 0; p < n; p++)
+            block[p] = values[(k * height + factor * i + p / factor) * width + factor * j
+                              + p % factor];
+        qsort(block, n, sizeof *block, rising);
+        out[at] = block[n / 2];
     }
     return out;
 }
@@ -370,9 +538,9 @@ typedef struct {
 } bounds;
 
 /* Slices that are longer than asked for. */
-static call longer(size_t height, size_t width)
+static call longer(size_t factor, size_t height, size_t width)
 {
-    call c = fitting(height, width);
+    call c = fitting(factor, height, width);
     c.planes += 5;
     c.edges += 5;
     c.scores += 5;
@@ -383,10 +551,9 @@ static call longer(size_t height, size_t width)
 static void planes_left(const char *where, left l, const float *values, call c, int narrowed)
 {
     size_t height = c.board.height, width = c.board.width, all = 3 * height * width;
-    float *once = narrowed_once(values, height, width);
+    float *once = narrowed ? narrowed_once(values, height, width, c.factor) : NULL;
     check(l.located.narrowed == (narrowed ? 1u : 0u), where, "narrowings");
-    check(memcmp(l.planes.at, narrowed ? once : values, all * sizeof *values) == 0, where,
-          "planes");
+    check(memcmp(l.planes.at, once ? once : values, all * sizeof *values) == 0, where, "planes");
     check(kept(l.planes, all), where, "plane entries further on");
     free(once);
 }
@@ -428,38 +595,40 @@ static const struct unread {
     bounds widened;
     uint32_t answer, columns, rows;
 } unread[] = {
-    {"locate, columns without a gap", {{42, 55, 3, 3, 12, 4, 0}, 0}, {1, 39, 1, 51},
+    {"locate, columns without a gap", {{42, 55, 3, 3, 12, 4, 0}, 1}, {1, 39, 1, 51},
      FOLGUTAN_COLUMNS_NO_GAP, FOLGUTAN_NO_GAP, FOLGUTAN_DONE},
-    {"locate, columns too far", {{60, 647, 4, 5, 12, 210, 1}, 0}, {1, 53, 2, 636},
+    {"locate, columns too far", {{60, 647, 4, 5, 12, 210, 1}, 1}, {1, 53, 2, 636},
      FOLGUTAN_COLUMNS_TOO_FAR, FOLGUTAN_TOO_FAR, FOLGUTAN_DONE},
-    {"locate, columns too far and rows without a gap", {{42, 647, 4, 5, 5, 210, 0}, 0},
+    {"locate, columns too far and rows without a gap", {{42, 647, 4, 5, 5, 210, 0}, 1},
      {1, 39, 2, 636}, FOLGUTAN_COLUMNS_TOO_FAR, FOLGUTAN_TOO_FAR, FOLGUTAN_NO_GAP},
-    {"locate, rows without a gap", {{55, 42, 3, 3, 4, 12, 0}, 0}, {1, 51, 1, 39},
+    {"locate, rows without a gap", {{55, 42, 3, 3, 4, 12, 0}, 1}, {1, 51, 1, 39},
      FOLGUTAN_ROWS_NO_GAP, FOLGUTAN_DONE, FOLGUTAN_NO_GAP},
-    {"locate, rows too far", {{647, 60, 5, 4, 210, 12, 1}, 0}, {2, 636, 1, 53},
+    {"locate, rows too far", {{647, 60, 5, 4, 210, 12, 1}, 1}, {2, 636, 1, 53},
      FOLGUTAN_ROWS_TOO_FAR, FOLGUTAN_DONE, FOLGUTAN_TOO_FAR},
-    {"locate, narrowed, columns without a gap", {{80, 83, 1, 2, 12, 4, 0}, 1}, {0, 77, 1, 80},
+    {"locate, narrowed, columns without a gap", {{80, 83, 1, 2, 12, 4, 0}, 3}, {0, 77, 1, 80},
      FOLGUTAN_COLUMNS_NO_GAP, FOLGUTAN_NO_GAP, FOLGUTAN_DONE},
-    {"locate, narrowed, rows without a gap", {{80, 83, 1, 2, 4, 12, 0}, 1}, {0, 77, 1, 80},
+    {"locate, narrowed, rows without a gap", {{80, 83, 1, 2, 4, 12, 0}, 3}, {0, 77, 1, 80},
      FOLGUTAN_ROWS_NO_GAP, FOLGUTAN_DONE, FOLGUTAN_NO_GAP},
 };
 
-static void unread_board(struct unread u)
+static void unread_board(struct unread u, size_t factor)
 {
-    size_t height = height_of(u.screen), width = width_of(u.screen);
+    char where[120];
+    snprintf(where, sizeof where, "%s, factor %zu", u.where, factor);
+    size_t height = height_of(u.screen), width = width_of(u.screen), times = u.screen.times;
     size_t across = u.widened.c_2 - u.widened.c_1, down = u.widened.r_2 - u.widened.r_1;
-    call c = longer(height, width);
+    call c = longer(factor, height, width);
     float *values = draw(u.screen);
     left l = locate(values, height, width, c);
     folgutan_board wanted = c.board;
-    wanted.height = u.screen.textured ? height / 3 : height;
-    wanted.width = u.screen.textured ? width / 3 : width;
-    check(l.located.answer == u.answer, u.where, "answer");
-    check(memcmp(&l.located.board, &wanted, sizeof wanted) == 0, u.where, "record with new sides");
-    check(zeros_but_answer(l.located), u.where, "zeros");
-    left_behind(u.where, l, c, values, u.screen.textured, u.widened);
-    check(read_list(l.scores, across).answer == u.columns, u.where, "column reading");
-    check(read_list(l.scores + across, down).answer == u.rows, u.where, "row reading");
+    wanted.height = height / times;
+    wanted.width = width / times;
+    check(l.located.answer == u.answer, where, "answer");
+    check(memcmp(&l.located.board, &wanted, sizeof wanted) == 0, where, "record with new sides");
+    check(zeros_but_answer(l.located), where, "zeros");
+    left_behind(where, l, c, values, times > 1, u.widened);
+    check(read_list(l.scores, across).answer == u.columns, where, "column reading");
+    check(read_list(l.scores + across, down).answer == u.rows, where, "row reading");
     drop(l);
     free(values);
 }
@@ -489,20 +658,20 @@ static void cells_sampled(const char *where, folgutan_board b, const float *plan
 }
 
 /* A board that is read. */
-static void read_board(const char *where, screen s, bounds widened)
+static void read_board(const char *name, screen s, size_t factor, bounds widened)
 {
+    char where[120];
+    snprintf(where, sizeof where, "%s, factor %zu", name, factor);
     size_t height = height_of(s), width = width_of(s);
     size_t across = widened.c_2 - widened.c_1, down = widened.r_2 - widened.r_1;
     drawn d = s.board;
-    call c = longer(height, width);
+    call c = longer(factor, height, width);
     float *values = draw(s);
     left l = locate(values, height, width, c);
     folgutan_located have = l.located;
     folgutan_board b = have.board;
     check(have.answer == FOLGUTAN_DONE, where, "answer");
-    check(b.height == (s.textured ? height / 3 : height)
-              && b.width == (s.textured ? width / 3 : width),
-          where, "sides");
+    check(b.height == height / s.times && b.width == width / s.times, where, "sides");
     check(b.r_1 == widened.r_1 && b.c_1 == widened.c_1, where, "corner");
     check(b.r == cells(d.height, d.top, d.down) && b.c == cells(d.width, d.left, d.across), where,
           "rows and columns");
@@ -513,27 +682,36 @@ static void read_board(const char *where, screen s, bounds widened)
               && have.quarterc + 1 >= 4 * d.across && have.quarterc <= 4 * d.across,
           where, "quarters");
     check(have.votesr > 0 && have.votesc > 0, where, "votes");
-    left_behind(where, l, c, values, s.textured, widened);
+    left_behind(where, l, c, values, s.times > 1, widened);
     reads_as(where, read_list(l.scores, across), b.pixelc, b.c0, b.c, have.votesc);
     reads_as(where, read_list(l.scores + across, down), b.pixelr, b.r0, b.r, have.votesr);
     /* after a narrowing the record is not in pixels of the planes that are left */
-    if (!s.textured)
+    if (s.times == 1)
         cells_sampled(where, b, l.planes.at);
     drop(l);
     free(values);
 }
 
+/* The same board, at the top left of a screen that is narrowed by each factor, and what its bounds
+ * are widened to there. */
+static const bounds narrowed_to[] = {
+    [2] = {0, 77, 0, 79}, [3] = {0, 77, 1, 80}, [4] = {1, 77, 1, 79}, [5] = {0, 76, 0, 80}};
+
 void test_locate(void)
 {
     refusals();
-    too_small(12, 12, 0);
-    too_small(13, 14, 7);
-    too_small(200, 203, 100);
-    too_small(12, 4096, 3);
-    for (size_t at = 0; at < COUNT(unread); at++)
-        unread_board(unread[at]);
-    read_board("locate of a board", (screen){{60, 64, 7, 5, 12, 11, 2}, 0},
-               (bounds){4, 56, 2, 60});
-    read_board("locate of a board, narrowed", (screen){{80, 83, 1, 2, 12, 11, 0}, 1},
-               (bounds){0, 77, 1, 80});
+    for (size_t at = 0; at < COUNT(blanks); at++)
+        too_small(blanks[at]);
+    for (size_t factor = LEAST; factor <= MOST; factor++) {
+        for (size_t over = 0; over < factor * factor; over++)
+            narrowed_blocks(factor, over / factor, over % factor);
+        /* what needs no narrowing is the same for each factor */
+        for (size_t at = 0; at < COUNT(unread); at++)
+            if (unread[at].screen.times == 1 || unread[at].screen.times == factor)
+                unread_board(unread[at], factor);
+        read_board("locate of a board", (screen){{60, 64, 7, 5, 12, 11, 2}, 1}, factor,
+                   (bounds){4, 56, 2, 60});
+        read_board("locate of a board, narrowed", (screen){{80, 83, 1, 2, 12, 11, 0}, factor},
+                   factor, narrowed_to[factor]);
+    }
 }

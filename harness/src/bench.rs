@@ -83,7 +83,10 @@ pub type Times = (Duration, Duration);
 const STEPS: &[(&str, fn(Kind, usize, usize) -> Times)] = &[
     ("gradient", gradient::measure),
     ("threshold, edges", edges::measure),
-    ("narrow", narrow::measure),
+    ("narrow by 2", |kind, height, width| narrow::measure(2, kind, height, width)),
+    ("narrow by 3", |kind, height, width| narrow::measure(3, kind, height, width)),
+    ("narrow by 4", |kind, height, width| narrow::measure(4, kind, height, width)),
+    ("narrow by 5", |kind, height, width| narrow::measure(5, kind, height, width)),
     ("column scores", scores::columns),
     ("row scores", scores::rows),
 ];

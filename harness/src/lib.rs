@@ -14,3 +14,6 @@ pub mod quiet;
 pub mod record;
 pub mod rng;
 pub mod screens;
+
+/// The factors that locating takes (02, R-1).
+pub const FACTORS: std::ops::RangeInclusive<usize> = 2..=5;

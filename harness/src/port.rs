@@ -117,6 +117,7 @@ mod linked {
         ) -> u32;
         pub fn folgutan_locate(
             board: Board,
+            factor: usize,
             planes: *mut f32,
             planes_len: usize,
             edges: *mut u8,
@@ -170,6 +171,7 @@ mod linked {
             out_len: usize,
         );
         pub fn folgutan_inner_narrow(
+            factor: usize,
             height: usize,
             width: usize,
             planes: *mut f32,
@@ -251,11 +253,12 @@ pub fn gradient(height: usize, width: usize, planes: &[f32], out: &mut [f32]) ->
     }
 }
 
-pub fn locate(board: Board, planes: &mut [f32], slices: Slices) -> Located {
+pub fn locate(board: Board, factor: usize, planes: &mut [f32], slices: Slices) -> Located {
     let Slices { edges, scores, scratch_f32, scratch_u8, scratch_u32 } = slices;
     unsafe {
         linked::folgutan_locate(
             board,
+            factor,
             planes.as_mut_ptr(),
             planes.len(),
             edges.as_mut_ptr(),
@@ -303,6 +306,7 @@ pub fn sample(
 /// Functions inside the port, which no header has.
 pub mod inner {
     use super::{linked, Board, Corners};
+    use crate::FACTORS;
 
     pub fn unit(x: f32) -> bool {
         unsafe { linked::folgutan_inner_unit(x) }
@@ -371,11 +375,19 @@ pub mod inner {
         }
     }
 
-    pub fn narrow(height: usize, width: usize, planes: &mut [f32], scratch: &mut [f32]) {
+    pub fn narrow(
+        factor: usize,
+        height: usize,
+        width: usize,
+        planes: &mut [f32],
+        scratch: &mut [f32],
+    ) {
+        assert!(FACTORS.contains(&factor));
         debug_assert!(fit_planes(height, width, planes));
         assert!(3 * height * width <= planes.len() && height * width <= scratch.len());
         unsafe {
             linked::folgutan_inner_narrow(
+                factor,
                 height,
                 width,
                 planes.as_mut_ptr(),

@@ -102,15 +102,21 @@ pub fn noisy(rng: &mut Rng, pixels: &mut [u8], by: i32) {
 }
 
 /// A screen that is narrowed and often read afterwards: coarse texture everywhere, a flat bar
-/// through the middle, which the first scan cannot cross, and a fine board at the top left. It takes
-/// one narrowing at scale 1, two at scale 3.
-pub fn textured(rng: &mut Rng, height: usize, width: usize, scale: usize) -> Vec<u8> {
+/// through the middle, which the first scan cannot cross, and a fine board at the top left. It often
+/// takes as many narrowings by the factor as said, 1 at least.
+pub fn textured(
+    rng: &mut Rng,
+    height: usize,
+    width: usize,
+    factor: usize,
+    narrowings: u32,
+) -> Vec<u8> {
+    let scale = factor.pow(narrowings - 1);
     let block = if scale == 1 { rng.between(9, 15) } else { rng.between(9 * scale, 13 * scale) };
-    let thick =
-        if scale == 1 { rng.between(7, 10) } else { rng.between(7 * scale, 28 * scale / 3) };
+    let thick = if scale == 1 { rng.between(7, 10) } else { rng.between(9 * scale, 13 * scale) };
     let (across, down) = rng.pick(&[(true, false), (false, true), (true, true)]);
     let seed = rng.next();
-    let part = 3 * scale;
+    let part = factor * scale;
     let (h, w) = (height / part, width / part);
     let mut board = Drawn::filling(rng, h, w, 7, (h.min(w) / 2).clamp(8, 40));
     board.top = rng.below(3);

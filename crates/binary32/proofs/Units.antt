@@ -5,16 +5,11 @@ use mathlib.Core.Path.{_≡_, refl}
 use mathlib.Core.Bool.{Bool, true, false, cond}
 use native.Mathlib.Omega.{arith}
 use borrow.Author.Tests.{leb-true, ltb-true, ltb-false}
-use lib.Dec.{T, ltb}
-use lib.Ieee.{Float, binary32, lt, fits, toBits}
+use lib.Dec.{ltb}
+use lib.Ieee.{Float, binary32, lt, toBits}
 use Rattle.binary32.specs.Binary32.{unit, larger}
-use Rattle.binary32.specs.Inner.{lesser}
+use Rattle.binary32.specs.Inner.{lesser, IsUnit}
 use Rattle.binary32.proofs.Plain.{Plain, bits-plain, plain-below}
-
--- a value of the format that is a unit
-pub record IsUnit (x : Float) : Type 0 where
-  pub fit : T (fits binary32 x)
-  pub small : unit x ≡ true
 
 unit-plain : {x : Float} → IsUnit x → Plain x
 unfolding unit

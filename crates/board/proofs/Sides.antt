@@ -6,8 +6,8 @@ use native.Mathlib.Nat.{mul-le-mul, mul-le-mul-right}
 use native.Mathlib.Omega.{arith}
 use borrow.Author.Tests.{leb-true, ltb-false, le-ltb}
 use lib.Dec.{leb, ltb}
-use Rattle.board.specs.Board.{leastPlaneSide, outside, sidesOutside, hasChannel}
-use Rattle.board.specs.Inner.{SidesIn}
+use Rattle.board.specs.Board.{leastPlaneSide, leastFactor, mostFactor, outside, sidesOutside, factorOutside, hasChannel}
+use Rattle.board.specs.Inner.{SidesIn, FactorIn}
 
 pub and-true : (p : Bool) → (p && true) ≡ p
 and-true true = refl
@@ -34,7 +34,7 @@ passed false n later e = (refl, e)
 pub sides-in : (least h w : ℕ) → sidesOutside least h w ≡ false → SidesIn least h w
 unfolding sidesOutside outside
 sides-in least h w e =
-    let s = neither (outside least h) (outside least w) e in
+    let s = neither (outside least 4096 h) (outside least 4096 w) e in
     let a = neither (ltb h least) (ltb 4096 h) (s .0) in
     let b = neither (ltb w least) (ltb 4096 w) (s .1) in
     let high-h = ltb-false 4096 h (a .1) in
@@ -51,6 +51,13 @@ pub sides-pass : {least h w : ℕ} → SidesIn least h w → sidesOutside least 
 unfolding sidesOutside outside
 sides-pass {least} {h} {w} s =
     rw (le-ltb h least (s .low-h), le-ltb 4096 h (s .high-h), le-ltb w least (s .low-w), le-ltb 4096 w (s .high-w))
+
+-- a factor that passes the test is within its limits
+pub factor-in : (f : ℕ) → factorOutside f ≡ false → FactorIn f
+unfolding outside
+factor-in f e =
+    let a = neither (ltb f leastFactor) (ltb mostFactor f) e in
+    record { low = ltb-false f leastFactor (a .0); high = ltb-false mostFactor f (a .1) }
 
 -- a plane that stands among len values
 pub record Stands (h w len k : ℕ) : Type 0 where

@@ -16,7 +16,7 @@ use Rattle.binary32.specs.Binary32.{unit}
 use Rattle.board.proofs.Sides.{and-true, and-false, both}
 use Rattle.board.specs.Planes.{allUnits}
 
-pub units-at : (l : List Float) (k : ℕ) → allUnits l ≡ true → k < length l → unit (getD l k nan) ≡ true
+units-at : (l : List Float) (k : ℕ) → allUnits l ≡ true → k < length l → unit (getD l k nan) ≡ true
 units-at [] k e h = absurd (omega arith)
 units-at (x ∷ l) zero e h = both (unit x) (allUnits l) e .0
 units-at (x ∷ l) (suc k) e h = units-at l k (both (unit x) (allUnits l) e .1) (omega arith)

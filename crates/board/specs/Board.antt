@@ -1,5 +1,5 @@
--- The board record and its limits: 01, "Load" and "How each operation declines".
-use Prim.Native.Nat.{ℕ, _*_}
+-- The board record and its limits: 01, "Load" and "How each operation declines", and 02, R-1.
+use Prim.Native.Nat.{ℕ, max, _*_}
 use mathlib.Core.Path.{_≡_}
 use mathlib.Core.Bool.{Bool, not, _&&_, _||_}
 use lib.Dec.{leb, ltb}
@@ -8,7 +8,7 @@ use Rattle.board.specs.declared.Board.{Board}
 use Rattle.board.specs.declared.Bounds.{Bounds}
 use Rattle.board.specs.declared.Spacing.{Spacing}
 
--- the least side of a screen that is loaded or located
+-- the least side of a screen that is loaded
 abbrev pub leastSide : ℕ
 leastSide = 12
 
@@ -24,12 +24,28 @@ mostSide = 4096
 abbrev pub mostSize : ℕ
 mostSize = 64
 
+-- the factors of a narrowing
+abbrev pub leastFactor : ℕ
+leastFactor = 2
+
+abbrev pub mostFactor : ℕ
+mostFactor = 5
+
+-- the least side of a screen that is located with the factor f: a narrowed side is at least 4
+abbrev pub leastLocated : ℕ → ℕ
+leastLocated f = max leastSide (4 * f)
+
 -- the code's constants are these limits
 pub record LimitsAre (side planeSide most size : ℕ) : Type 0 where
   pub side-is : side ≡ leastSide
   pub plane-side-is : planeSide ≡ leastPlaneSide
   pub most-is : most ≡ mostSide
   pub size-is : size ≡ mostSize
+
+-- and these its limits of the factor
+pub record FactorsAre (least most : ℕ) : Type 0 where
+  pub least-is : least ≡ leastFactor
+  pub most-is : most ≡ mostFactor
 
 -- in a fresh record all but the sides is zero
 abbrev pub fresh : ℕ → ℕ → Board
@@ -83,12 +99,16 @@ withReading b bounds rows columns =
       pixelc = columns .pitch;
     }
 
-unfoldable pub outside : ℕ → ℕ → Bool
-outside least side = ltb side least || ltb mostSide side
+-- below the least or above the most
+unfoldable pub outside : ℕ → ℕ → ℕ → Bool
+outside least most n = ltb n least || ltb most n
 
 unfoldable pub sidesOutside : ℕ → ℕ → ℕ → Bool
 unfolding outside
-sidesOutside least h w = outside least h || outside least w
+sidesOutside least h w = outside least mostSide h || outside least mostSide w
+
+abbrev pub factorOutside : ℕ → Bool
+factorOutside f = outside leastFactor mostFactor f
 
 -- plane k of an h by w screen stands among len values
 unfoldable pub hasChannel : ℕ → ℕ → ℕ → ℕ → Bool

@@ -1,5 +1,6 @@
-// The board record, its limits and its planes (01, Load), and the answers 1, 3 and 4 to planes that are not fit. Definitions: specs/Board,
-// specs/Planes, specs/Screen. Laws for callers: proofs/Sides, proofs/Planes (what an answer of 0 shows), proofs/Units.
+// The board record, its limits and its planes (01, Load), the limits of the factor (02, R-1), and the answers 1, 3 and 4 to planes that
+// are not fit. Definitions: specs/Board, specs/Planes, specs/Screen. Laws for callers: proofs/Sides, proofs/Planes (what an answer of 0
+// shows), proofs/Units.
 ghost use mathlib.Core.Path.{_≡_};
 ghost use mathlib.Core.Bool.{not};
 ghost use Prim.Native.Nat.{_^_, _≤_};
@@ -7,7 +8,8 @@ ghost use lib.ListN.{length, take};
 ghost use Rattle.lists.specs.Picture.{bit};
 ghost use Rattle.binary32.specs.Binary32.{unit};
 ghost use Rattle.board.specs.Board as Spec;
-ghost use Rattle.board.specs.Board.{LimitsAre};
+ghost use Rattle.board.specs.Board.{LimitsAre, FactorsAre};
+ghost use Rattle.board.specs.Inner.{FactorIn};
 ghost use Rattle.board.specs.Planes.{allUnits, planesAnswer};
 ghost use Rattle.board.specs.Screen.{channelOf};
 
@@ -43,7 +45,7 @@ pub struct Spacing {
 }
 
 impl Board {
-    // Sides that are loaded and located.
+    // Sides that are loaded.
     pub const LEAST_SIDE: usize = 12;
 
     // Sides of planes that have a gradient, a channel and samples.
@@ -54,6 +56,11 @@ impl Board {
     // The side of a cell's sample.
     pub const MOST_SIZE: usize = 64;
 
+    // Factors of a narrowing.
+    pub const LEAST_FACTOR: usize = 2;
+
+    pub const MOST_FACTOR: usize = 5;
+
     // A record of these sides with zeros in the other eight fields. That the limits above are the definitions' is
     // stated here: a constant has no contract of its own.
     pub fn fresh(height: usize, width: usize) -> Self
@@ -61,6 +68,7 @@ impl Board {
         ensures limits { λ _. do
           ⌜ LimitsAre (← ⟦Board::LEAST_SIDE⟧ .entry) (← ⟦Board::LEAST_PLANE_SIDE⟧ .entry)
               (← ⟦Board::MOST_SIDE⟧ .entry) (← ⟦Board::MOST_SIZE⟧ .entry) ⌝ }
+        ensures factors { λ _. do ⌜ FactorsAre (← ⟦Board::LEAST_FACTOR⟧ .entry) (← ⟦Board::MOST_FACTOR⟧ .entry) ⌝ }
     {
         Board {
             height: height,
@@ -105,23 +113,44 @@ impl Board {
     }
 }
 
-fn outside(least: usize, side: usize) -> bool
-    ensures { λ r. ⌜ r ≡ Spec.outside least side ⌝ }
+// Whether a number is below `least` or above `most`.
+fn outside(least: usize, most: usize, n: usize) -> bool
+    ensures { λ r. ⌜ r ≡ Spec.outside least most n ⌝ }
 {
-    if side < least {
+    if n < least {
         return true;
     }
-    Board::MOST_SIDE < side
+    most < n
 }
 
 // Whether a side is below `least` or above the largest.
 pub fn sides_outside(least: usize, height: usize, width: usize) -> bool
     ensures { λ r. ⌜ r ≡ Spec.sidesOutside least height width ⌝ }
 {
-    if outside(least, height) {
+    if outside(least, Board::MOST_SIDE, height) {
         return true;
     }
-    outside(least, width)
+    outside(least, Board::MOST_SIDE, width)
+}
+
+// Whether a factor is one that no narrowing has.
+pub fn factor_outside(factor: usize) -> bool
+    ensures { λ r. ⌜ r ≡ Spec.factorOutside factor ⌝ }
+{
+    outside(Board::LEAST_FACTOR, Board::MOST_FACTOR, factor)
+}
+
+// The least side that is located with this factor.
+pub fn least_located(factor: usize) -> usize
+    requires { ⌜ FactorIn factor ⌝ }
+    ensures { λ r. ⌜ r ≡ Spec.leastLocated factor ⌝ }
+{
+    let n = 4 * factor;
+    if n < Board::LEAST_SIDE {
+        Board::LEAST_SIDE
+    } else {
+        n
+    }
 }
 
 // 1 for a value that is no unit.

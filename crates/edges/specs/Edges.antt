@@ -2,12 +2,12 @@
 use Prim.Native.Nat.{ℕ, _+_, _-_, _*_, _/_}
 use mathlib.Core.Bool.{cond}
 use mathlib.Core.List.{List}
-use lib.Ieee.{Float, nan, binary32, lt, le, mul, ofBits, toBits}
+use lib.Ieee.{Float, nan, binary32, lt, le, mul, ofBits}
 use lib.ListN.{length, getD}
 use Rattle.lists.specs.Tab.{tab, grid}
 use Rattle.lists.specs.Picture.{bit}
 use Rattle.binary32.specs.Binary32.{float, trunc}
-use Rattle.rank.specs.Rank.{entry}
+use Rattle.rank.specs.Rank.{entry, ranked}
 use Rattle.gradient.specs.Gradient.{gradients}
 
 -- how many of a side's places lie in its middle half, which begins at side / 4
@@ -30,7 +30,7 @@ clip t =
 
 unfoldable pub threshold : ℕ → ℕ → List Float → Float
 unfolding rankOf clip entry
-threshold row column g = clip (entry (toBits binary32) nan (sample row column g) (rankOf (length (sample row column g))))
+threshold row column g = clip (ranked (sample row column g) (rankOf (length (sample row column g))))
 
 -- a byte for each gradient: 1 where it is at least the threshold
 abbrev pub marks : Float → ℕ → List Float → List ℕ

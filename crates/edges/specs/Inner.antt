@@ -6,7 +6,7 @@ use mathlib.Core.List.{List}
 use lib.Ieee.{Float, nan, binary32, toBits}
 use lib.ListN.{length, getD}
 use Rattle.lists.specs.Tab.{grid}
-use Rattle.rank.specs.Rank.{entry}
+use Rattle.rank.specs.Rank.{ranked}
 use Rattle.edges.specs.Edges.{middle, clip}
 use Rattle.edges.specs.declared.Range.{Range}
 
@@ -41,7 +41,7 @@ part s p row column g = grid (taken s row) (taken p column) (λ i j. getD g (sta
 
 -- the bits of the clipped entry `rank`
 abbrev pub sought : List Float → ℕ → ℕ
-sought l rank = toBits binary32 (clip (entry (toBits binary32) nan l rank))
+sought l rank = toBits binary32 (clip (ranked l rank))
 
 -- up to mid where more than `rank` values are at most mid, else above it
 pub record Cut (r : Range) (mid rank count : ℕ) (s : Range) : Type 0 where

@@ -39,6 +39,7 @@ pub extern "C" fn folgutan_gradient(
 #[no_mangle]
 pub extern "C" fn folgutan_locate(
     b: Board,
+    factor: usize,
     planes: &mut [f32],
     edges: &mut [u8],
     scores: &mut [u32],
@@ -51,10 +52,11 @@ pub extern "C" fn folgutan_locate(
         (now («scratch_f32» .entry)) (now («scratch_u8» .entry)) (now («scratch_u32» .entry)) in
         let after = lent (now (planes .exit)) (now (edges .exit)) (now (scores .exit))
         (now («scratch_f32» .exit)) (now («scratch_u8» .exit)) (now («scratch_u32» .exit)) in
-        ⌜ LocateGives b before r after × Promise b before r after ⌝ }
+        ⌜ LocateGives b factor before r after × Promise b factor before r after ⌝ }
 {
     locate::get_pos_pixel(
         b,
+        factor,
         planes,
         edges,
         scores,

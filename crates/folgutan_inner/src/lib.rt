@@ -4,7 +4,7 @@ ghost use lib.ListN.{take, drop};
 ghost use Rattle.lists.specs.Picture.{points};
 ghost use Rattle.board.specs.Board.{leastPlaneSide};
 ghost use Rattle.board.specs.Planes.{allUnits};
-ghost use Rattle.board.specs.Inner.{FitPlanes};
+ghost use Rattle.board.specs.Inner.{FactorIn, FitPlanes};
 ghost use Rattle.lists.specs.Front.{AtFront};
 ghost use Rattle.gradient.specs.Gradient.{gradients};
 ghost use Rattle.edges.specs.Edges.{marked};
@@ -106,16 +106,17 @@ pub extern "C" fn folgutan_inner_edges(row: usize, column: usize, g: &[f32], out
 
 #[no_mangle]
 pub extern "C" fn folgutan_inner_narrow(
+    f: usize,
     height: usize,
     width: usize,
     planes: &mut [f32],
     scratch: &mut [f32],
 )
-    requires { ⌜ FitPlanes 0 height width (now planes) × (height * width ≤ length (now scratch)) ⌝ }
-    ensures { λ _. ⌜ now (planes .exit) ≡ Narrow.narrow 3 height width (now (planes .entry)) ⌝ }
+    requires { ⌜ FitPlanes 0 height width (now planes) × FactorIn f × (height * width ≤ length (now scratch)) ⌝ }
+    ensures { λ _. ⌜ now (planes .exit) ≡ Narrow.narrow f height width (now (planes .entry)) ⌝ }
     ensures { λ _. ⌜ drop (height * width) (now (scratch .exit)) ≡ drop (height * width) (now (scratch .entry)) ⌝ }
 {
-    narrow::narrow(height, width, planes, scratch)
+    narrow::narrow(f, height, width, planes, scratch)
 }
 
 #[no_mangle]

@@ -8,12 +8,12 @@ use native.Mathlib.Numerals.{add-one}
 use native.Mathlib.Omega.{arith}
 use lib.ListN.{length, take, drop, getD, set, length-set, length-append, length-drop, take-append-drop, List·getD-append}
 use lib.Seq.{take-at, take-append-le, length-take-le, drop-at, drop-drop, drop-length, drop-append-le}
-use lib.Seq.{set-split, getD-append-add, getD-drop}
+use lib.Seq.{set-split, getD-append-add, getD-drop, getD-take}
 use borrow.Rule.Slice.PartMut.{midOf, putMid, same-len-mid}
 use Rattle.lists.specs.Front.{AtFront}
 use Rattle.lists.specs.Inner.{Placed}
 use Rattle.lists.specs.Tab.{tab, grid}
-use Rattle.lists.proofs.Tab.{length-tabFrom, tab-same, tab-add}
+use Rattle.lists.proofs.Tab.{length-tabFrom, getD-tab, tab-same, tab-add}
 use Rattle.lists.proofs.Grid.{tab-more, grid-more}
 use Rattle.lists.proofs.Part.{mid-rest, put-rest}
 
@@ -154,6 +154,36 @@ module _ {A : Type 0} where
       let more : (i + 1) * size ≡ i * size + size = omega (arith, add-mul i 1 size, one-mul size) in
       rw (more, tab-add (i * size) size value, ← tab-same size row (λ j. value (i * size + j)) e)
       (placed-join x y (rw (length-tabFrom 0 (i * size) value) s) h)
+
+  -- what is read back
+  pub front-here : (z : A) (f : ℕ → A) (n r : ℕ) {lent out : List A} → AtFront (tab n f) lent out → r < n → getD out r z ≡ f r
+  front-here z f n r h b = front-within z r h (omega (arith, length-tabFrom 0 n f)) ∙ getD-tab n r f z b
+
+  placed-whole : {list : List A} {at : ℕ} {lent out : List A} → Placed list at lent out → at ≤ length lent
+      → AtFront (take at lent ++ list) lent out
+  placed-whole {at = at} {lent} x h =
+      let l = length-take-le at lent h in
+      placed-front {text = take at lent} (front-by at l h (sym (take-append-drop at lent))) l x
+
+  module _ (z : A) (value : ℕ → A) (n : ℕ) {at : ℕ} {lent out : List A} (x : Placed (tab n value) at lent out) (h : at ≤ length lent) where
+    long : length (take at lent ++ tab n value) ≡ at + n
+    long = simp length-append (omega (arith, length-take-le at lent h, length-tabFrom 0 n value))
+
+    pub placed-before : (r : ℕ) → r < at → getD out r z ≡ getD lent r z
+    placed-before r b =
+        front-within z r (placed-whole x h) (omega (arith, long))
+        ∙ List·getD-append (take at lent) (tab n value) z r (omega (arith, length-take-le at lent h))
+        ∙ getD-take at lent r z b
+
+    pub placed-here : (r : ℕ) → r < n → getD out (at + r) z ≡ value r
+    placed-here r b =
+        front-within z (at + r) (placed-whole x h) (omega (arith, long))
+        ∙ ap (λ (k : ℕ). getD (take at lent ++ tab n value) (k + r) z) (sym (length-take-le at lent h))
+        ∙ getD-append-add (take at lent) (tab n value) r z
+        ∙ getD-tab n r value z b
+
+    pub placed-behind : (r : ℕ) → at + n ≤ r → getD out r z ≡ getD lent r z
+    placed-behind r b = front-beyond z r (placed-whole x h) (omega (arith, long))
 
   -- what was placed at the start is at the front
   pub placed-start : {list lent out : List A} → Placed list 0 lent out → AtFront list lent out

@@ -7,9 +7,9 @@ use borrow.Author.Tests.{ltb-false}
 use lib.Dec.{ltb}
 use lib.ListN.{length}
 use Rattle.board.specs.declared.Board.{Board}
-use Rattle.board.specs.Board.{leastSide}
-use Rattle.board.specs.Inner.{FitPlanes}
-use Rattle.board.proofs.Sides.{neither}
+use Rattle.board.specs.Board.{leastLocated, factorOutside}
+use Rattle.board.specs.Inner.{FactorIn, FitPlanes}
+use Rattle.board.proofs.Sides.{neither, passed, factor-in}
 use Rattle.board.proofs.Planes.{planes-fit}
 use Rattle.locate.specs.Locate.{Lent, lent, slicesShort, checked}
 use Rattle.locate.specs.Inner.{NoneShort}
@@ -36,8 +36,9 @@ none-short h w s e =
     }
 
 -- all is fit for the work
-pub fit : (b : Board) (s : Lent) → checked b s ≡ 0
-    → FitPlanes leastSide (b .height) (b .width) (s .planes) × NoneShort (b .height) (b .width) s
-fit b s e =
-    let f = planes-fit leastSide (b .height) (b .width) (s .planes) (slicesShort (b .height) (b .width) s) e in
-    (f .0, none-short (b .height) (b .width) s (f .1))
+pub fit : (b : Board) (f : ℕ) (s : Lent) → checked b f s ≡ 0
+    → FactorIn f × FitPlanes (leastLocated f) (b .height) (b .width) (s .planes) × NoneShort (b .height) (b .width) s
+fit b f s e =
+    let a = passed (factorOutside f) 12 _ e in
+    let p = planes-fit (leastLocated f) (b .height) (b .width) (s .planes) (slicesShort (b .height) (b .width) s) (a .1) in
+    (factor-in f (a .0), p .0, none-short (b .height) (b .width) s (p .1))

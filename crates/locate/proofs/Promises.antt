@@ -148,23 +148,24 @@ module _ (b : Board) (g : Reference) (s : g .last .tooSmall ≡ false → Scored
       go true e = (λ z. absurd (omega arith), λ r. absurd (false≢true (sym (r .large) ∙ e)))
       go false e = both e _ _ refl refl
 
-pub promised : (b : Board) (before : Lent) (r : Located) (after : Lent) → LocateGives b before r after → Promise b before r after
-promised b before r after g = go (passes b before) refl (g .located-is) (g .scores-are)
+pub promised : (b : Board) (f : ℕ) (before : Lent) (r : Located) (after : Lent) → LocateGives b f before r after
+    → Promise b f before r after
+promised b f before r after g = go (passes b f before) refl (g .located-is) (g .scores-are)
   where
     ref : Reference
-    ref = referenceFor b before
+    ref = referenceFor b f before
 
-    go : (t : Bool) → passes b before ≡ t → r ≡ cond t (found b ref) (declined b (checked b before) 0)
-        → AtFront (cond t (scoresOf ref) []) (before .scores) (after .scores) → Promise b before r after
-    go true e p x =
-        let z = eqb-true (checked b before) 0 e in
-        let f = fit b before z .0 in
+    go : (t : Bool) → passes b f before ≡ t → r ≡ cond t (found b ref) (declined b (checked b f before) 0)
+        → AtFront (cond t (scoresOf ref) []) (before .scores) (after .scores) → Promise b f before r after
+    go true e is x =
+        let z = eqb-true (checked b f before) 0 e in
+        let p = fit b f before z in
         let s : ref .last .tooSmall ≡ false → Scored ref =
-        λ q. scored (b .height) (b .width) (before .planes) f (rw (last-is (b .height) (b .width) (before .planes)) at q) in
+        λ q. scored f (b .height) (b .width) (before .planes) (p .0) (p .1) (rw (last-is f (b .height) (b .width) (before .planes)) at q) in
         record {
-          answered = (λ a. (z, found-answer b ref s .0 (rw p at a)), λ y a. rw p (found-answer b ref s .1 a));
-          optimal = λ a. rw p (found-optimal b ref s (before .scores) (after .scores) x (rw p at a));
+          answered = (λ a. (z, found-answer b ref s .0 (rw is at a)), λ y a. rw is (found-answer b ref s .1 a));
+          optimal = λ a. rw is (found-optimal b ref s (before .scores) (after .scores) x (rw is at a));
         }
-    go false e p x =
-        let n = eqb-false (checked b before) 0 e in
-        record { answered = (λ a. absurd (n (rw p at a)), λ y a. absurd (n y)); optimal = λ a. absurd (n (rw p at a)) }
+    go false e is x =
+        let n = eqb-false (checked b f before) 0 e in
+        record { answered = (λ a. absurd (n (rw is at a)), λ y a. absurd (n y)); optimal = λ a. absurd (n (rw is at a)) }

@@ -7,12 +7,12 @@ use mathlib.Core.List.{List}
 use native.Mathlib.Omega.{arith}
 use lib.Ieee.{Float}
 use lib.ListN.{length}
-use Rattle.board.specs.Board.{leastSide}
-use Rattle.board.specs.Inner.{FitPlanes}
+use Rattle.board.specs.Board.{leastLocated}
+use Rattle.board.specs.Inner.{FactorIn, FitPlanes}
 use Rattle.edges.proofs.Laws.{length-edges}
 use Rattle.bounds.proofs.Laws.{Wide, within, wide}
 use Rattle.narrowings.specs.Loop.{Stage, first, pictureAt, boundsAt, thin, lastOf}
-use Rattle.narrowings.proofs.Turns.{by-three, Sound, spans, sound-around, last-sound}
+use Rattle.narrowings.proofs.Turns.{Sound, spans, sound-around, last-sound}
 use Rattle.strips.specs.Strip.{columnScores, rowScores}
 use Rattle.locate.specs.Reference.{Reference, referenceOf}
 
@@ -24,31 +24,31 @@ pub record Scored (g : Reference) : Type 0 where
   pub columns-are : g .columns ≡ columnScores (g .picture) (g .bounds)
   pub rows-are : g .rows ≡ rowScores (g .picture) (g .bounds)
 
-module _ (h w : ℕ) (planes : List Float) where
+module _ (f h w : ℕ) (planes : List Float) where
   -- the fields of the reference, each by itself
-  pub last-is : referenceOf h w planes .last ≡ lastOf 3 h w planes
+  pub last-is : referenceOf f h w planes .last ≡ lastOf f h w planes
   unfolding referenceOf
   last-is = refl
 
-  module _ (f : FitPlanes leastSide h w planes) (ends : lastOf 3 h w planes .tooSmall ≡ false) where
+  module _ (i : FactorIn f) (p : FitPlanes (leastLocated f) h w planes) (ends : lastOf f h w planes .tooSmall ≡ false) where
     abbrev l : Stage
-    l = lastOf 3 h w planes .stage
+    l = lastOf f h w planes .stage
 
-    pub sound : Sound h w (length planes) l
-    sound = last-sound 3 by-three h w planes f ends .0
+    pub sound : Sound f h w (length planes) l
+    sound = last-sound f i h w planes p ends .0
 
     pub not-thin : thin (l .height) (l .width) (boundsAt l) ≡ false
-    not-thin = last-sound 3 by-three h w planes f ends .1
+    not-thin = last-sound f i h w planes p ends .1
 
     -- both spans of the widened bounds are at least 4, and they lie inside the last picture
-    pub wide-enough : Wide (l .height - 2) (l .width - 2) (referenceOf h w planes .bounds)
+    pub wide-enough : Wide (l .height - 2) (l .width - 2) (referenceOf f h w planes .bounds)
     unfolding referenceOf
     wide-enough =
         let s = sound .fit .sides in
         let n = spans (l .height) (l .width) (boundsAt l) not-thin in
         wide (pictureAt (first h w planes)) (omega (arith, s .low-h)) (omega (arith, s .low-w)) (within (sound-around sound)) (n .0) (n .1)
 
-    pub scored : Scored (referenceOf h w planes)
+    pub scored : Scored (referenceOf f h w planes)
     unfolding referenceOf
     scored =
         let e = wide-enough in
@@ -59,8 +59,8 @@ module _ (h w : ℕ) (planes : List Float) where
             columns = e .columns;
             column-end = omega (arith, e .column-end, sound .high-w);
           };
-          rows-end = omega (arith, f .sides .high-h);
-          columns-end = omega (arith, f .sides .high-w);
+          rows-end = omega (arith, p .sides .high-h);
+          columns-end = omega (arith, p .sides .high-w);
           whole = length-edges h w planes;
           columns-are = refl;
           rows-are = refl;

@@ -3,6 +3,7 @@ use Prim.Native.Nat.{ℕ, _+_, _-_, _*_}
 use mathlib.Core.Path.{_≡_, refl, sym, _∙_}
 use mathlib.Core.Bool.{true, false}
 use mathlib.Core.List.{List}
+use native.Mathlib.Omega.{arith}
 use borrow.Author.Tests.{eq-eqb, ne-eqb}
 use lib.Ieee.{Float}
 use lib.ListN.{length, take, drop}
@@ -10,8 +11,8 @@ use Rattle.lists.specs.Front.{AtFront}
 use Rattle.lists.proofs.Front.{front-none}
 use Rattle.board.specs.declared.Board.{Board}
 use Rattle.board.specs.declared.Bounds.{Bounds}
-use Rattle.board.specs.Board.{leastSide, resized}
-use Rattle.board.specs.Inner.{FitPlanes}
+use Rattle.board.specs.Board.{leastLocated, resized}
+use Rattle.board.specs.Inner.{FactorIn, FitPlanes}
 use Rattle.edges.specs.Edges.{edges}
 use Rattle.edges.proofs.Laws.{edge-le}
 use Rattle.bounds.proofs.Laws as Bounds
@@ -28,11 +29,11 @@ use Rattle.locate.specs.Inner.{NoneShort, Leads, ReadsFrom, Works}
 use Rattle.locate.proofs.Promises.{promised}
 use Rattle.locate.proofs.Scored.{sound, not-thin}
 
-module _ (b : Board) (before : Lent) (f : FitPlanes leastSide (b .height) (b .width) (before .planes))
+module _ (b : Board) (f : ℕ) (before : Lent) (i : FactorIn f) (p : FitPlanes (leastLocated f) (b .height) (b .width) (before .planes))
     (room : NoneShort (b .height) (b .width) before)
     {l : Narrowed} {start : Bounds} {planes' : List Float} {edges' : List ℕ}
     (looks : Looks (first (b .height) (b .width) (before .planes)) (before .edges) start edges')
-    (narrows : Narrows (lastOf 3 (b .height) (b .width) (before .planes)) l planes') where
+    (narrows : Narrows (lastOf f (b .height) (b .width) (before .planes)) l planes') where
   abbrev h : ℕ
   h = b .height
 
@@ -40,23 +41,23 @@ module _ (b : Board) (before : Lent) (f : FitPlanes leastSide (b .height) (b .wi
   w = b .width
 
   abbrev last : Last
-  last = lastOf 3 h w (before .planes)
+  last = lastOf f h w (before .planes)
 
   picture-is : take ((h - 2) * (w - 2)) edges' ≡ edges h w (before .planes)
   picture-is = edges-part h w (before .planes) (looks .bytes-are)
 
-  planes-left : planes' ≡ referenceFor b before .last .stage .planes
+  planes-left : planes' ≡ referenceFor b f before .last .stage .planes
   unfolding referenceOf
   planes-left = narrows .planes-are
 
-  edges-left : AtFront (referenceFor b before .edges) (before .edges) edges'
+  edges-left : AtFront (referenceFor b f before .edges) (before .edges) edges'
   unfolding referenceOf
   edges-left = looks .bytes-are
 
   -- the screen got too small
   pub works-small : {r : Located} (f32 : List Float) (u8 u32 : List ℕ) → l .small ≡ true
       → r ≡ declined (resized b (l .height) (l .width)) 5 (l .narrowed)
-      → Works b before r (lent planes' edges' (before .scores) f32 u8 u32)
+      → Works b f before r (lent planes' edges' (before .scores) f32 u8 u32)
   unfolding referenceOf
   works-small f32 u8 u32 ok e =
       let s : last .tooSmall ≡ true = sym (narrows .small-is) ∙ ok in
@@ -74,18 +75,18 @@ module _ (b : Board) (before : Lent) (f : FitPlanes leastSide (b .height) (b .wi
 
     pub leads : Leads h w l edges' (length (before .scores)) (length (before .scratch-u8)) (length (before .scratch-u32))
     leads =
-        let s = sound h w (before .planes) f large in
+        let s = sound f h w (before .planes) i p large in
         let a = sound-around s in
-        let n = spans (last .stage .height) (last .stage .width) (boundsAt (last .stage)) (not-thin h w (before .planes) f large) in
+        let n = spans (last .stage .height) (last .stage .width) (boundsAt (last .stage)) (not-thin f h w (before .planes) i p large) in
         let h-is = narrows .height-is in
         let w-is = narrows .width-is in
         let b-is = narrows .bounds-are ok in
         record {
-          high = f .sides .high-h;
-          wide = f .sides .high-w;
-          low-h = rw h-is (s .fit .sides .low-h);
+          high = p .sides .high-h;
+          wide = p .sides .high-w;
+          low-h = rw h-is (omega (arith, s .fit .sides .low-h));
           high-h = rw h-is (s .high-h);
-          low-w = rw w-is (s .fit .sides .low-w);
+          low-w = rw w-is (omega (arith, s .fit .sides .low-w));
           high-w = rw w-is (s .high-w);
           within = rw (h-is, w-is, b-is) (Bounds.within a);
           rows = rw (h-is, b-is) (n .0);
@@ -99,7 +100,7 @@ module _ (b : Board) (before : Lent) (f : FitPlanes leastSide (b .height) (b .wi
 
     pub works-read : {r : Located} {scores' : List ℕ} (f32 : List Float) (u8 u32 : List ℕ)
         → ReadsFrom b l (take ((h - 2) * (w - 2)) edges') (before .scores) r scores'
-        → Works b before r (lent planes' edges' scores' f32 u8 u32)
+        → Works b f before r (lent planes' edges' scores' f32 u8 u32)
     unfolding referenceOf
     works-read {r} {scores'} f32 u8 u32 e =
         let is = rw (picture-is, narrows .height-is, narrows .width-is, narrows .narrowed-is, narrows .bounds-are ok) at e in
@@ -118,38 +119,38 @@ pub record ScratchKept (h w : ℕ) (before after : Lent) : Type 0 where
   pub u8-kept : drop (h * w) (after .scratch-u8) ≡ drop (h * w) (before .scratch-u8)
   pub u32-kept : drop (4 * (h + w)) (after .scratch-u32) ≡ drop (4 * (h + w)) (before .scratch-u32)
 
-module _ (b : Board) (before : Lent) {r : Located} where
-  pub refuses : (answer : ℕ) → answer ≡ checked b before → (answer ≡ 0 → ⊥) → r ≡ declined b answer 0
-      → LocateGives b before r before × Promise b before r before
+module _ (b : Board) (f : ℕ) (before : Lent) {r : Located} where
+  pub refuses : (answer : ℕ) → answer ≡ checked b f before → (answer ≡ 0 → ⊥) → r ≡ declined b answer 0
+      → LocateGives b f before r before × Promise b f before r before
   refuses answer e n d =
-      let f : passes b before ≡ false = rw e at (ne-eqb answer 0 n) in
-      let g : LocateGives b before r before =
+      let no : passes b f before ≡ false = rw e at (ne-eqb answer 0 n) in
+      let g : LocateGives b f before r before =
       record {
-        located-is = rw f (rw e at d);
-        planes-are = rw f;
-        edges-are = rw f front-none;
-        scores-are = rw f front-none;
+        located-is = rw no (rw e at d);
+        planes-are = rw no;
+        edges-are = rw no front-none;
+        scores-are = rw no front-none;
         f32-kept = refl;
         u8-kept = refl;
         u32-kept = refl;
       } in
-      (g, promised b before r before g)
+      (g, promised b f before r before g)
 
   -- the work was done on scratch of 01's lengths
-  pub accepts : (after mid-before mid-after : Lent) → checked b before ≡ 0 → Works b mid-before r mid-after
+  pub accepts : (after mid-before mid-after : Lent) → checked b f before ≡ 0 → Works b f mid-before r mid-after
       → mid-before .planes ≡ before .planes → mid-before .edges ≡ before .edges → mid-before .scores ≡ before .scores
       → mid-after .planes ≡ after .planes → mid-after .edges ≡ after .edges → mid-after .scores ≡ after .scores
-      → ScratchKept (b .height) (b .width) before after → LocateGives b before r after × Promise b before r after
+      → ScratchKept (b .height) (b .width) before after → LocateGives b f before r after × Promise b f before r after
   accepts after mid-before mid-after e k p q s p' q' s' t =
-      let f : passes b before ≡ true = eq-eqb (checked b before) 0 e in
-      let g : LocateGives b before r after =
+      let yes : passes b f before ≡ true = eq-eqb (checked b f before) 0 e in
+      let g : LocateGives b f before r after =
       record {
-        located-is = rw f (rw p at (k .located-is));
-        planes-are = rw f (rw (p, p') at (k .planes-are));
-        edges-are = rw f (rw (p, q, q') at (k .edges-are));
-        scores-are = rw f (rw (p, s, s') at (k .scores-are));
-        f32-kept = rw f (t .f32-kept);
-        u8-kept = rw f (t .u8-kept);
-        u32-kept = rw f (t .u32-kept);
+        located-is = rw yes (rw p at (k .located-is));
+        planes-are = rw yes (rw (p, p') at (k .planes-are));
+        edges-are = rw yes (rw (p, q, q') at (k .edges-are));
+        scores-are = rw yes (rw (p, s, s') at (k .scores-are));
+        f32-kept = rw yes (t .f32-kept);
+        u8-kept = rw yes (t .u8-kept);
+        u32-kept = rw yes (t .u32-kept);
       } in
-      (g, promised b before r after g)
+      (g, promised b f before r after g)

@@ -54,8 +54,8 @@ ReadsFrom b l edges before r after =
     ReadsOn E (resized b (l .height) (l .width)) (l .narrowed) (widen E (l .height - 2) (l .width - 2) (l .bounds)) before r after
 
 -- what the work leaves where the checks passed
-pub record Works (b : Board) (before : Lent) (r : Located) (after : Lent) : Type 0 where
-  pub located-is : r ≡ found b (referenceFor b before)
-  pub planes-are : after .planes ≡ referenceFor b before .last .stage .planes
-  pub edges-are : AtFront (referenceFor b before .edges) (before .edges) (after .edges)
-  pub scores-are : AtFront (scoresOf (referenceFor b before)) (before .scores) (after .scores)
+pub record Works (b : Board) (f : ℕ) (before : Lent) (r : Located) (after : Lent) : Type 0 where
+  pub located-is : r ≡ found b (referenceFor b f before)
+  pub planes-are : after .planes ≡ referenceFor b f before .last .stage .planes
+  pub edges-are : AtFront (referenceFor b f before .edges) (before .edges) (after .edges)
+  pub scores-are : AtFront (scoresOf (referenceFor b f before)) (before .scores) (after .scores)

@@ -1,4 +1,4 @@
--- 01, "Locating" and its refusals: what a call hands back and leaves.
+-- 01, "Locating" and its refusals, with 02, R-1: what a call hands back and leaves.
 use Prim.Native.Nat.{ℕ, _+_, _*_}
 use mathlib.Core.Path.{_≡_}
 use mathlib.Core.Bool.{Bool, cond, _||_}
@@ -10,7 +10,7 @@ use Rattle.lists.specs.Front.{AtFront}
 use Rattle.board.specs.declared.Board.{Board}
 use Rattle.board.specs.declared.Bounds.{Bounds}
 use Rattle.board.specs.declared.Spacing.{Spacing}
-use Rattle.board.specs.Board.{leastSide, resized, withReading}
+use Rattle.board.specs.Board.{leastLocated, factorOutside, resized, withReading}
 use Rattle.board.specs.Planes.{planesAnswer}
 use Rattle.reading.specs.declared.Quarters.{Quarters}
 use Rattle.reading.specs.declared.Quarters.the-variants.{Read, Refused}
@@ -40,12 +40,14 @@ slicesShort h w s =
     || (ltb (length (s .scratch-f32)) (h * w)
     || (ltb (length (s .scratch-u8)) (h * w) || ltb (length (s .scratch-u32)) (4 * (h + w)))))
 
--- 1, 3, 4, or 0
-abbrev pub checked : Board → Lent → ℕ
-checked b s = planesAnswer leastSide (b .height) (b .width) (s .planes) (slicesShort (b .height) (b .width) s)
+-- 13 a factor outside 2 to 5; then 1, 3, 4, or 0
+abbrev pub checked : Board → ℕ → Lent → ℕ
+checked b f s =
+    cond (factorOutside f) 13
+    (planesAnswer (leastLocated f) (b .height) (b .width) (s .planes) (slicesShort (b .height) (b .width) s))
 
-abbrev pub passes : Board → Lent → Bool
-passes b s = eqb (checked b s) 0
+abbrev pub passes : Board → ℕ → Lent → Bool
+passes b f s = eqb (checked b f s) 0
 
 -- ---- what is handed back
 
@@ -82,8 +84,8 @@ found b g =
     (joined sized (l .narrowed) (g .bounds) (quartersOf (g .columns)) (quartersOf (g .rows)))
 
 -- the same from planes that pass the checks
-abbrev pub foundIn : Board → List Float → Located
-foundIn b planes = found b (referenceOf (b .height) (b .width) planes)
+abbrev pub foundIn : Board → ℕ → List Float → Located
+foundIn b f planes = found b (referenceOf f (b .height) (b .width) planes)
 
 -- what is written to the score slice where the checks passed: after 5 nothing
 abbrev pub scoresOf : Reference → List ℕ
@@ -92,20 +94,20 @@ scoresOf g = cond (g .last .tooSmall) [] (g .columns ++ g .rows)
 -- ---- the call
 
 -- the reference of a call
-abbrev pub referenceFor : Board → Lent → Reference
-referenceFor b s = referenceOf (b .height) (b .width) (s .planes)
+abbrev pub referenceFor : Board → ℕ → Lent → Reference
+referenceFor b f s = referenceOf f (b .height) (b .width) (s .planes)
 
 -- how much of a scratch slice is free afterwards: what 01 asks for, and nothing where the checks refuse
-abbrev pub freed : Board → Lent → ℕ → ℕ
-freed b s n = cond (passes b s) n 0
+abbrev pub freed : Board → ℕ → Lent → ℕ → ℕ
+freed b f s n = cond (passes b f s) n 0
 
 -- What a call answers and leaves. Where the checks refuse, the record and all slices are as given. Scratch is free up to 01's lengths;
 -- entries further on keep their content.
-pub record LocateGives (b : Board) (before : Lent) (r : Located) (after : Lent) : Type 0 where
-  pub located-is : r ≡ cond (passes b before) (found b (referenceFor b before)) (declined b (checked b before) 0)
-  pub planes-are : after .planes ≡ cond (passes b before) (referenceFor b before .last .stage .planes) (before .planes)
-  pub edges-are : AtFront (cond (passes b before) (referenceFor b before .edges) []) (before .edges) (after .edges)
-  pub scores-are : AtFront (cond (passes b before) (scoresOf (referenceFor b before)) []) (before .scores) (after .scores)
-  pub f32-kept : let n = freed b before (b .height * b .width) in drop n (after .scratch-f32) ≡ drop n (before .scratch-f32)
-  pub u8-kept : let n = freed b before (b .height * b .width) in drop n (after .scratch-u8) ≡ drop n (before .scratch-u8)
-  pub u32-kept : let n = freed b before (4 * (b .height + b .width)) in drop n (after .scratch-u32) ≡ drop n (before .scratch-u32)
+pub record LocateGives (b : Board) (f : ℕ) (before : Lent) (r : Located) (after : Lent) : Type 0 where
+  pub located-is : r ≡ cond (passes b f before) (found b (referenceFor b f before)) (declined b (checked b f before) 0)
+  pub planes-are : after .planes ≡ cond (passes b f before) (referenceFor b f before .last .stage .planes) (before .planes)
+  pub edges-are : AtFront (cond (passes b f before) (referenceFor b f before .edges) []) (before .edges) (after .edges)
+  pub scores-are : AtFront (cond (passes b f before) (scoresOf (referenceFor b f before)) []) (before .scores) (after .scores)
+  pub f32-kept : let n = freed b f before (b .height * b .width) in drop n (after .scratch-f32) ≡ drop n (before .scratch-f32)
+  pub u8-kept : let n = freed b f before (b .height * b .width) in drop n (after .scratch-u8) ≡ drop n (before .scratch-u8)
+  pub u32-kept : let n = freed b f before (4 * (b .height + b .width)) in drop n (after .scratch-u32) ≡ drop n (before .scratch-u32)

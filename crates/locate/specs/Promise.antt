@@ -96,9 +96,9 @@ pub record BoardFound (g : Reference) : Type 0 where
   pub columns-read : gapAnswer (linesOf (g .columns)) ≡ 0
   pub rows-read : gapAnswer (linesOf (g .rows)) ≡ 0
 
--- The promise, over the record and the slices as handed in, and what is handed back: the answer is 0 exactly where the checks pass and a
--- board is read by the rules, and then nobody who draws on the same edge picture does better.
-pub record Promise (b : Board) (before : Lent) (r : Located) (after : Lent) : Type 0 where
-  pub answered : (r .answer ≡ 0 → (checked b before ≡ 0) × BoardFound (referenceFor b before))
-      × (checked b before ≡ 0 → BoardFound (referenceFor b before) → r .answer ≡ 0)
-  pub optimal : r .answer ≡ 0 → Optimal (referenceFor b before) r (after .scores)
+-- The promise, over the record, the factor and the slices as handed in, and what is handed back: the answer is 0 exactly where the checks
+-- pass and a board is read by the rules, and then nobody who draws on the same edge picture does better.
+pub record Promise (b : Board) (f : ℕ) (before : Lent) (r : Located) (after : Lent) : Type 0 where
+  pub answered : (r .answer ≡ 0 → (checked b f before ≡ 0) × BoardFound (referenceFor b f before))
+      × (checked b f before ≡ 0 → BoardFound (referenceFor b f before) → r .answer ≡ 0)
+  pub optimal : r .answer ≡ 0 → Optimal (referenceFor b f before) r (after .scores)

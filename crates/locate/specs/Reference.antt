@@ -1,4 +1,5 @@
--- What locating is held to: by the rules of 01, "Locating", from the sides and planes as handed in, and from nothing else.
+-- What locating is held to: by the rules of 01, "Locating", and 02, R-1, from the factor, the sides and the planes as handed in, and from
+-- nothing else.
 use Prim.Native.Nat.{ℕ, _-_}
 use mathlib.Core.Bool.{Bool}
 use mathlib.Core.List.{List}
@@ -24,11 +25,11 @@ pub record Reference : Type 0 where
   pub rows : List ℕ
 
 -- All steps below the loop use the first edge picture with the last bounds; the widening's rows, columns and thirds are the last picture's
--- too. Screens are narrowed by 3.
-unfoldable pub referenceOf : ℕ → ℕ → List Float → Reference
+-- too. Every narrowing of the loop has the factor f.
+unfoldable pub referenceOf : ℕ → ℕ → ℕ → List Float → Reference
 unfolding lastOf
-referenceOf h w planes =
-    let last = lastOf 3 h w planes in
+referenceOf f h w planes =
+    let last = lastOf f h w planes in
     let scored = first h w planes in
     let l = last .stage in
     let b = widen (pictureAt scored) (l .height - 2) (l .width - 2) (boundsAt l) in

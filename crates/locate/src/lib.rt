@@ -1,14 +1,14 @@
-// Locating the board (01, "Locating"). It refuses with 1, 3, 4 and 5 to 9. Definitions: specs/Reference (what it is
-// held to, from the sides and planes as handed in), specs/Locate (what a call hands back and leaves), specs/Promise (on
-// the same edge picture no walk and no vote beats what it hands back). The loop of narrowings is crate narrowings, the
-// scores and their readings crate axes.
+// Locating the board (01, "Locating"; 02, R-1). It refuses with 13, then 1, 3 and 4, then 5 to 9. Definitions:
+// specs/Reference (what it is held to, from the factor, sides and planes as handed in), specs/Locate (what a call hands
+// back and leaves), specs/Promise (on the same edge picture no walk and no vote beats what it hands back). The loop of
+// narrowings is crate narrowings, the scores and their readings crate axes.
 ghost use mathlib.Core.Path.{_≡_};
 ghost use mathlib.Core.Bool.{false};
 ghost use mathlib.Core.List.{[]};
 ghost use Prim.Native.Nat.{_-_, _*_, _≤_};
 ghost use lib.ListN.{length, take};
-ghost use Rattle.board.specs.Board.{leastSide, sidesOutside};
-ghost use Rattle.board.specs.Inner.{FitPlanes};
+ghost use Rattle.board.specs.Board.{leastLocated, sidesOutside};
+ghost use Rattle.board.specs.Inner.{FactorIn, FitPlanes};
 ghost use Rattle.axes.specs.Inner.{Fits32};
 ghost use Rattle.locate.specs.Locate as Spec;
 ghost use Rattle.locate.specs.Locate.{lent, slicesShort, checked, LocateGives};
@@ -42,6 +42,7 @@ struct AxisReading {
 
 // Whether a slice other than the planes is short. With sides outside the limits any answer will do: it is not looked at.
 fn slices_short(
+    least: usize,
     height: usize,
     width: usize,
     edges: &[u8],
@@ -53,9 +54,9 @@ fn slices_short(
     ensures { λ r.
         let s = lent [] (now (edges .entry)) (now (scores .entry))
         (now («scratch_f32» .entry)) (now («scratch_u8» .entry)) (now («scratch_u32» .entry)) in
-        ⌜ (sidesOutside leastSide height width ≡ false → r ≡ slicesShort height width s) ⌝ }
+        ⌜ (sidesOutside least height width ≡ false → r ≡ slicesShort height width s) ⌝ }
 {
-    if board::sides_outside(Board::LEAST_SIDE, height, width) {
+    if board::sides_outside(least, height, width) {
         return true;
     }
     let n = height * width;
@@ -77,6 +78,7 @@ fn slices_short(
 // The checks before any work.
 fn check(
     b: Board,
+    factor: usize,
     planes: &[f32],
     edges: &[u8],
     scores: &[u32],
@@ -87,9 +89,14 @@ fn check(
     ensures { λ r.
         let s = lent (now (planes .entry)) (now (edges .entry)) (now (scores .entry))
         (now («scratch_f32» .entry)) (now («scratch_u8» .entry)) (now («scratch_u32» .entry)) in
-        ⌜ r ≡ checked b s ⌝ }
+        ⌜ r ≡ checked b factor s ⌝ }
 {
+    if board::factor_outside(factor) {
+        return 13;
+    }
+    let least = board::least_located(factor);
     let short = slices_short(
+        least,
         b.height,
         b.width,
         edges,
@@ -98,7 +105,7 @@ fn check(
         scratch_u8,
         scratch_u32,
     );
-    board::planes_answer(Board::LEAST_SIDE, b.height, b.width, planes, short)
+    board::planes_answer(least, b.height, b.width, planes, short)
 }
 
 // A refusal: all but the record, the answer and the count of narrowings is 0.
@@ -228,6 +235,7 @@ fn read_from(
 // The work, once the checks passed.
 fn work(
     b: Board,
+    factor: usize,
     planes: &mut [f32],
     edges: &mut [u8],
     scores: &mut [u32],
@@ -235,7 +243,7 @@ fn work(
     scratch_u8: &mut [u8],
     scratch_u32: &mut [u32],
 ) -> Located
-    requires { ⌜ FitPlanes leastSide (b .height) (b .width) (now planes) ⌝ }
+    requires { ⌜ FactorIn factor × FitPlanes (leastLocated factor) (b .height) (b .width) (now planes) ⌝ }
     requires { let s = lent (now planes) (now edges) (now scores) (now «scratch_f32») (now «scratch_u8») (now «scratch_u32») in
         ⌜ NoneShort (b .height) (b .width) s ⌝ }
     ensures { λ r.
@@ -243,21 +251,30 @@ fn work(
         (now («scratch_f32» .entry)) (now («scratch_u8» .entry)) (now («scratch_u32» .entry)) in
         let after = lent (now (planes .exit)) (now (edges .exit)) (now (scores .exit))
         (now («scratch_f32» .exit)) (now («scratch_u8» .exit)) (now («scratch_u32» .exit)) in
-        ⌜ Works b before r after ⌝ }
+        ⌜ Works b factor before r after ⌝ }
 {
     let height = b.height;
     let width = b.width;
     let start = narrowings::look(height, width, planes, scratch_f32, edges);
-    let l = narrowings::narrow_on(height, width, start, planes, scratch_f32, scratch_u8);
+    let l = narrowings::narrow_on(
+        factor,
+        height,
+        width,
+        start,
+        planes,
+        scratch_f32,
+        scratch_u8,
+    );
     if l.small {
         return declined(b.resized(l.height, l.width), 5, l.narrowed);
     }
     read_from(b, l, edges, scores, scratch_u8, scratch_u32)
 }
 
-// Locates the board in the lent planes. What is lent of the scratch slices beyond 01's lengths is kept.
+// Locates the board in the lent planes; each narrowing has the factor. What is lent of the scratch slices beyond 01's lengths is kept.
 pub fn get_pos_pixel(
     b: Board,
+    factor: usize,
     planes: &mut [f32],
     edges: &mut [u8],
     scores: &mut [u32],
@@ -270,10 +287,11 @@ pub fn get_pos_pixel(
         (now («scratch_f32» .entry)) (now («scratch_u8» .entry)) (now («scratch_u32» .entry)) in
         let after = lent (now (planes .exit)) (now (edges .exit)) (now (scores .exit))
         (now («scratch_f32» .exit)) (now («scratch_u8» .exit)) (now («scratch_u32» .exit)) in
-        ⌜ LocateGives b before r after × Promise b before r after ⌝ }
+        ⌜ LocateGives b factor before r after × Promise b factor before r after ⌝ }
 {
     let answer = check(
         b,
+        factor,
         planes,
         edges,
         scores,
@@ -288,6 +306,7 @@ pub fn get_pos_pixel(
     let m = 4 * (b.height + b.width);
     work(
         b,
+        factor,
         planes,
         edges,
         scores,

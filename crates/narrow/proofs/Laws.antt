@@ -11,12 +11,13 @@ use lib.Seq.{take-at}
 use Rattle.lists.proofs.Tab.{length-tabFrom, getD-tab}
 use Rattle.lists.proofs.Grid.{row-column}
 use Rattle.rank.proofs.Members.{entry-has}
+use Rattle.binary32.specs.Binary32.{unit}
 use Rattle.board.specs.Screen.{packed, view}
 use Rattle.board.specs.Planes.{allUnits}
 use Rattle.board.specs.Inner.{FitPlanes}
 use Rattle.board.proofs.Packed.{length-packed, packed-units}
 use Rattle.narrow.specs.Narrow.{block, median, narrowed, narrow}
-use Rattle.narrow.proofs.Block.{IsUnit, unit-at, block-lt}
+use Rattle.narrow.proofs.Block.{unit-at, block-lt}
 
 -- the middle one of a block is one of it
 median-has : (P : Float → Type 0) (f : ℕ) → 0 < f → (a : ℕ → ℕ → Float) (i j : ℕ) →
@@ -41,7 +42,7 @@ narrowed-units : (f h w : ℕ) (planes : List Float) → 0 < f → FitPlanes 0 h
     → allUnits (packed (narrowed f (view h w planes))) ≡ true
 narrowed-units f h w planes l p =
     packed-units (narrowed f (view h w planes))
-    (λ k i j a b c. median-has IsUnit f l (view h w planes .px k) i j (λ u v d e. unit-at p _ (block-lt h w a b c d e)))
+    (λ k i j a b c. median-has (λ x. unit x ≡ true) f l (view h w planes .px k) i j (λ u v d e. unit-at p _ (block-lt h w a b c d e)))
 
 -- sides that are not too small stay within the limits, and what they hold can be narrowed again
 pub narrow-fit : {h w : ℕ} {planes : List Float} (f : ℕ) → 2 ≤ f → (least : ℕ) → FitPlanes 0 h w planes → least ≤ h / f → least ≤ w / f

@@ -1,4 +1,4 @@
 pub mod Block
+pub mod Gathering
 pub mod Laws
-pub mod Network
 pub mod Packed

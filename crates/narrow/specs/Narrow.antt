@@ -1,22 +1,18 @@
--- 01, "Narrowing", over the factor f: today 3.
+-- 01, "Narrowing", and 02, R-1: over the factor f, 2 to 5.
 use Prim.Native.Nat.{ℕ, _+_, _-_, _*_, _/_}
 use mathlib.Core.List.{List, _++_}
-use lib.Ieee.{Float, nan, binary32, ofBits, toBits}
+use lib.Ieee.{Float, binary32, ofBits}
 use lib.ListN.{replicate}
 use Rattle.lists.specs.Front.{over}
 use Rattle.lists.specs.Tab.{grid}
-use Rattle.rank.specs.Rank.{entry}
+use Rattle.rank.specs.Rank.{entry, ranked}
 use Rattle.board.specs.Screen.{Screen, packed, view}
-
--- entry j of values sorted rising
-abbrev pub ranked : List Float → ℕ → Float
-ranked l j = entry (toBits binary32) nan l j
 
 -- the f by f block of the plane a that becomes the point (i, j)
 abbrev pub block : ℕ → (ℕ → ℕ → Float) → ℕ → ℕ → List Float
 block f a i j = grid f f (λ u v. a (i * f + u) (j * f + v))
 
--- the middle one of the block sorted rising: of nine the fifth smallest
+-- the middle one of the block sorted rising: of nine the fifth smallest, of an even number the upper one
 unfoldable pub median : ℕ → (ℕ → ℕ → Float) → ℕ → ℕ → Float
 unfolding entry
 median f a i j = ranked (block f a i j) (f * f / 2)

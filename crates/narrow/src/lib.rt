@@ -1,113 +1,152 @@
-// Narrowing (01, "Narrowing"): each plane point becomes the fifth smallest of its 3 by 3 block. Definitions: specs/Narrow, over the factor;
-// specs/Inner is for the inner functions. Laws for callers: proofs/Laws. It asks for planes that are fit, of any sides up to the
-// largest: the order of units is that of their bits, so that it can pick by comparison.
+// Narrowing by a factor f from 2 to 5 (01, "Narrowing"; 02, R-1): each point of a narrowed plane is the median of its f by f block.
+// Definitions: specs/Narrow; specs/Inner is for the inner functions. Laws for callers: proofs/Laws. It asks for planes that are fit, of
+// any sides up to the largest: the order of units is that of their bits, so that it can pick by comparison. The blocks of several
+// points of a row are picked from at once, a list each (crate select).
 ghost use mathlib.Core.Path.{_≡_};
-ghost use mathlib.Core.Bool.{true};
-ghost use mathlib.Core.List.{[], _∷_};
-ghost use Prim.Native.Nat.{_+_, _*_, _/_, _<_, _≤_};
+ghost use Prim.Native.Nat.{min, _+_, _*_, _/_, _<_, _≤_};
 ghost use lib.ListN.{length, drop};
 ghost use Rattle.lists.specs.Front.{AtFront};
+ghost use Rattle.lists.specs.Inner.{Placed};
+ghost use Rattle.select.specs.Inner.{listCount};
 ghost use Rattle.board.specs.Screen.{view, packed};
-ghost use Rattle.board.specs.Planes.{allUnits};
-ghost use Rattle.board.specs.Inner.{FitPlanes};
+ghost use Rattle.board.specs.Inner.{FactorIn, FitPlanes};
 ghost use Rattle.narrow.specs.Narrow as Spec;
-ghost use Rattle.narrow.specs.Narrow.{ranked, median, narrowed};
-ghost use Rattle.narrow.specs.Inner.{neighbours, risingAt, rowOf};
+ghost use Rattle.narrow.specs.Narrow.{narrowed};
+ghost use Rattle.narrow.specs.Inner.{rowOf, run, Fetched, Reached, Gathered, GatheredRow};
+use board::Board;
+use select::LIST_COUNT;
 
-// Three values sorted rising.
-struct Rising {
-    smallest: f32,
-    second: f32,
-    largest: f32,
-}
+// Room for the largest blocks.
+const ROOM: usize = Board::MOST_FACTOR * Board::MOST_FACTOR * LIST_COUNT;
 
-fn smallest(a: f32, b: f32, c: f32) -> f32
-    requires { ⌜ allUnits (a ∷ b ∷ c ∷ []) ≡ true ⌝ }
-    ensures { λ r. ⌜ r ≡ ranked (a ∷ b ∷ c ∷ []) 0 ⌝ }
+// The values of one block's row, each to its place in the list of its point.
+fn fetch(planes: &[f32], from: usize, f: usize, x: &mut [f32], to: usize)
+    requires { ⌜ (from + f ≤ length (now planes)) × (to + f * listCount < length (now x) + listCount) ⌝ }
+    ensures { λ _. ⌜ Fetched f from to (now (planes .entry)) (now (x .entry)) (now (x .exit)) ⌝ }
 {
-    binary32::lesser(binary32::lesser(a, b), c)
-}
-
-fn second(a: f32, b: f32, c: f32) -> f32
-    requires { ⌜ allUnits (a ∷ b ∷ c ∷ []) ≡ true ⌝ }
-    ensures { λ r. ⌜ r ≡ ranked (a ∷ b ∷ c ∷ []) 1 ⌝ }
-{
-    binary32::larger(
-        binary32::lesser(a, b),
-        binary32::lesser(binary32::larger(a, b), c),
-    )
-}
-
-fn largest(a: f32, b: f32, c: f32) -> f32
-    requires { ⌜ allUnits (a ∷ b ∷ c ∷ []) ≡ true ⌝ }
-    ensures { λ r. ⌜ r ≡ ranked (a ∷ b ∷ c ∷ []) 2 ⌝ }
-{
-    binary32::larger(binary32::larger(a, b), c)
-}
-
-// Three neighbours, the first at `at`.
-fn rising_at(s: &[f32], at: usize) -> Rising
-    requires { ⌜ (at + 2 < length (now s)) × (allUnits (neighbours (now s) at) ≡ true) ⌝ }
-    ensures { λ r. ⌜ r ≡ risingAt (now (s .entry)) at ⌝ }
-{
-    let a = s[at];
-    let b = s[at + 1];
-    let c = s[at + 2];
-    Rising {
-        smallest: smallest(a, b, c),
-        second: second(a, b, c),
-        largest: largest(a, b, c),
+    for v in 0..f {
+        x[to + v * LIST_COUNT] = planes[from + v];
     }
 }
 
-// The fifth smallest of the block of row i and column j in plane k. Of the block's rows: the largest of the smallest, the second of the
-// second and the smallest of the largest; of these three the second.
-fn fifth(height: usize, width: usize, planes: &[f32], k: usize, i: usize, j: usize) -> f32
-    requires { ⌜ FitPlanes 0 height width (now planes) × (k < 3) × (i < height / 3) × (j < width / 3) ⌝ }
-    ensures { λ r. ⌜ r ≡ median 3 (view height width (now (planes .entry)) .px k) i j ⌝ }
+// One row of the blocks of m points, which lie side by side.
+fn gather_row(planes: &[f32], from: usize, f: usize, m: usize, x: &mut [f32], to: usize)
+    requires { ⌜ (from + m * f ≤ length (now planes)) × (m ≤ listCount) × (to + f * listCount ≤ length (now x)) ⌝ }
+    ensures { λ _. ⌜ GatheredRow f m from to (now (planes .entry)) (now (x .entry)) (now (x .exit)) ⌝ }
 {
-    let top = k * (height * width) + (i * 3 * width + j * 3);
-    let p = rising_at(planes, top);
-    let q = rising_at(planes, top + width);
-    let r = rising_at(planes, top + 2 * width);
-    let low = largest(p.smallest, q.smallest, r.smallest);
-    let mid = second(p.second, q.second, r.second);
-    let high = smallest(p.largest, q.largest, r.largest);
-    second(low, mid, high)
+    for l in 0..m {
+        fetch(planes, from + l * f, f, x, to + l);
+    }
 }
 
-// Row i of narrowed plane k into another slice: within one slice the compiler cannot work on several points at once.
-fn narrow_row(height: usize, width: usize, planes: &[f32], k: usize, i: usize, out: &mut [f32])
-    requires { ⌜ FitPlanes 0 height width (now planes) × (k < 3) × (i < height / 3) × (width / 3 ≤ length (now out)) ⌝ }
-    ensures { λ _. ⌜ AtFront (rowOf (narrowed 3 (view height width (now (planes .entry)))) k i) (now (out .entry)) (now (out .exit)) ⌝ }
+// The blocks of m points, row by row: a list each, and nothing is said of the lists beyond.
+fn gather(f: usize, planes: &[f32], at: usize, width: usize, m: usize, x: &mut [f32])
+    requires { ⌜ Reached f m width at (now planes) × (m ≤ listCount) × (f * f * listCount ≤ length (now x)) ⌝ }
+    ensures { λ _. ⌜ Gathered f f m width at (now (planes .entry)) (now (x .exit)) ⌝ }
 {
-    for j in 0..width / 3 {
-        out[j] = fifth(height, width, planes, k, i, j);
+    for u in 0..f {
+        gather_row(planes, at + u * width, f, m, x, u * f * LIST_COUNT);
+    }
+}
+
+// The same: the loop is unrolled, and where the factor is a constant, the compiler takes the values of neighbouring points apart several
+// at a time.
+fn gather_known(f: usize, planes: &[f32], at: usize, width: usize, m: usize, x: &mut [f32])
+    requires { ⌜ FactorIn f × Reached f m width at (now planes) × (m ≤ listCount) × (f * f * listCount ≤ length (now x)) ⌝ }
+    ensures { λ _. ⌜ Gathered f f m width at (now (planes .entry)) (now (x .exit)) ⌝ }
+{
+    for k in Board::LEAST_FACTOR..Board::MOST_FACTOR + 1 {
+        if k == f {
+            gather(k, planes, at, width, m, x);
+        }
+    }
+}
+
+// The m points from j on of row i of narrowed plane k.
+fn group(
+    f: usize,
+    height: usize,
+    width: usize,
+    planes: &[f32],
+    k: usize,
+    i: usize,
+    j: usize,
+    m: usize,
+    x: &mut [f32],
+    out: &mut [f32],
+)
+    requires { ⌜ FitPlanes 0 height width (now planes) × FactorIn f × (k < 3) × (i < height / f) × (j + m ≤ width / f) ⌝ }
+    requires { ⌜ (0 < m) × (m ≤ listCount) × (f * f * listCount ≤ length (now x)) × (width / f ≤ length (now out)) ⌝ }
+    ensures { λ _. ⌜ Placed (run (narrowed f (view height width (now (planes .entry)))) k i j m) j (now (out .entry)) (now (out .exit)) ⌝ }
+{
+    let at = k * (height * width) + (i * f * width + j * f);
+    gather_known(f, planes, at, width, m, x);
+    select::medians(f * f, x, m, out, j);
+}
+
+// How many of n points are taken at once.
+fn group_size(n: usize) -> usize
+    ensures { λ r. ⌜ r ≡ min listCount n ⌝ }
+{
+    if n < LIST_COUNT { n } else { LIST_COUNT }
+}
+
+// Row i of narrowed plane k.
+fn narrow_row(
+    f: usize,
+    height: usize,
+    width: usize,
+    planes: &[f32],
+    k: usize,
+    i: usize,
+    x: &mut [f32],
+    out: &mut [f32],
+)
+    requires { ⌜ FitPlanes 0 height width (now planes) × FactorIn f × (k < 3) × (i < height / f) ⌝ }
+    requires { ⌜ (f * f * listCount ≤ length (now x)) × (width / f ≤ length (now out)) ⌝ }
+    ensures { λ _. ⌜ AtFront (rowOf (narrowed f (view height width (now (planes .entry)))) k i) (now (out .entry)) (now (out .exit)) ⌝ }
+{
+    let columns = width / f;
+    let mut j = 0;
+    while j < columns {
+        let m = group_size(columns - j);
+        group(f, height, width, planes, k, i, j, m, x, out);
+        j = j + m;
     }
 }
 
 // The narrowed planes, one after another, row by row.
-fn narrow_planes(height: usize, width: usize, planes: &[f32], out: &mut [f32])
-    requires { ⌜ FitPlanes 0 height width (now planes) × (height * width ≤ length (now out)) ⌝ }
-    ensures { λ _. ⌜ AtFront (packed (narrowed 3 (view height width (now (planes .entry))))) (now (out .entry)) (now (out .exit)) ⌝ }
+fn narrow_planes(f: usize, height: usize, width: usize, planes: &[f32], out: &mut [f32])
+    requires { ⌜ FitPlanes 0 height width (now planes) × FactorIn f × (height * width ≤ length (now out)) ⌝ }
+    ensures { λ _. ⌜ AtFront (packed (narrowed f (view height width (now (planes .entry))))) (now (out .entry)) (now (out .exit)) ⌝ }
 {
-    let rows = height / 3;
-    let columns = width / 3;
+    let rows = height / f;
+    let columns = width / f;
+    let mut x: [f32; ROOM] = [0.0; ROOM];
     for r in 0..3 * rows {
         let from = r * columns;
-        narrow_row(height, width, planes, r / rows, r % rows, &mut out[from..]);
+        narrow_row(
+            f,
+            height,
+            width,
+            planes,
+            r / rows,
+            r % rows,
+            &mut x,
+            &mut out[from..],
+        );
     }
 }
 
-// Narrows the planes by 3. The first height · width entries of `scratch` are free afterwards.
-pub fn narrow(height: usize, width: usize, planes: &mut [f32], scratch: &mut [f32])
-    requires { ⌜ FitPlanes 0 height width (now planes) × (height * width ≤ length (now scratch)) ⌝ }
-    ensures { λ _. ⌜ now (planes .exit) ≡ Spec.narrow 3 height width (now (planes .entry)) ⌝ }
+// Narrows the planes by f. The first height · width entries of `scratch` are free afterwards.
+pub fn narrow(f: usize, height: usize, width: usize, planes: &mut [f32], scratch: &mut [f32])
+    requires { ⌜ FitPlanes 0 height width (now planes) × FactorIn f × (height * width ≤ length (now scratch)) ⌝ }
+    ensures { λ _. ⌜ now (planes .exit) ≡ Spec.narrow f height width (now (planes .entry)) ⌝ }
     ensures { λ _. ⌜ drop (height * width) (now (scratch .exit)) ≡ drop (height * width) (now (scratch .entry)) ⌝ }
 {
-    let n = 3 * (height / 3 * (width / 3));
+    let n = 3 * (height / f * (width / f));
     let rest = 3 * (height * width) - n;
-    narrow_planes(height, width, planes, scratch);
+    narrow_planes(f, height, width, planes, scratch);
     lists::copy_f32(scratch, n, planes);
     lists::clear_f32(&mut planes[n..], rest);
 }

@@ -4,15 +4,15 @@ use Prim.Native.Nat.{ℕ, zero, suc, _+_, _-_, _*_, _/_, _≤_, _<_}
 use mathlib.Core.Path.{_≡_, refl, _∙_}
 use mathlib.Core.Bool.{Bool, true, false, cond, true≢false}
 use mathlib.Core.List.{List}
-use native.Mathlib.Nat.{div-le-self, div-lt-self}
+use native.Mathlib.Nat.{div-le-self, div-lt-self, le-div-iff-mul-le}
 use native.Mathlib.Omega.{arith}
 use borrow.Author.Tests.{leb-false}
 use lib.Dec.{leb}
 use lib.Ieee.{Float}
 use lib.ListN.{length}
 use Rattle.board.specs.declared.Bounds.{Bounds}
-use Rattle.board.specs.Board.{leastSide}
-use Rattle.board.specs.Inner.{FitPlanes}
+use Rattle.board.specs.Board.{leastLocated}
+use Rattle.board.specs.Inner.{FactorIn, FitPlanes}
 use Rattle.board.proofs.Planes.{fit-lower}
 use Rattle.board.proofs.Sides.{neither}
 use Rattle.narrow.specs.Narrow.{narrow}
@@ -36,35 +36,52 @@ spans h w b e =
     (leb-false (b .«r_2» - b .«r_1») ((h - 2) / 3) (a .0), leb-false (b .«c_2» - b .«c_1») ((w - 2) / 3) (a .1))
 
 -- what passes on: the planes are fit, the sides are within the first ones, and the slice is as long
-pub record Sound (h w long : ℕ) (s : Stage) : Type 0 where
-  pub fit : FitPlanes leastSide (s .height) (s .width) (s .planes)
+pub record Sound (f h w long : ℕ) (s : Stage) : Type 0 where
+  pub fit : FitPlanes (leastLocated f) (s .height) (s .width) (s .planes)
   pub high-h : s .height ≤ h
   pub high-w : s .width ≤ w
   pub area : s .height * s .width ≤ h * w
   pub long-is : length (s .planes) ≡ long
 
-pub sound-first : {h w : ℕ} {planes : List Float} → FitPlanes leastSide h w planes → Sound h w (length planes) (first h w planes)
-sound-first f = record { fit = f; high-h = omega arith; high-w = omega arith; area = omega arith; long-is = refl }
+pub sound-first : {f h w : ℕ} {planes : List Float} → FitPlanes (leastLocated f) h w planes → Sound f h w (length planes) (first h w planes)
+sound-first p = record { fit = p; high-h = omega arith; high-w = omega arith; area = omega arith; long-is = refl }
 
 -- the bounds of such a screen lie around its middle
-pub sound-around : {h w long : ℕ} {s : Stage} → Sound h w long s → Around (s .height - 2) (s .width - 2) (boundsAt s)
+pub sound-around : {f h w long : ℕ} {s : Stage} → Sound f h w long s → Around (s .height - 2) (s .width - 2) (boundsAt s)
 sound-around {s = s} p = around (pictureAt s) (omega (arith, p .fit .sides .low-h)) (omega (arith, p .fit .sides .low-w))
 
 -- they are in order
-pub ordered : {h w long : ℕ} {s : Stage} → Sound h w long s
+pub ordered : {f h w long : ℕ} {s : Stage} → Sound f h w long s
     → (boundsAt s .«r_1» ≤ boundsAt s .«r_2») × (boundsAt s .«c_1» ≤ boundsAt s .«c_2»)
 ordered p = let a = sound-around p in (omega (arith, a .rows .low, a .rows .high), omega (arith, a .columns .low, a .columns .high))
 
--- the factor of the code
-pub by-three : 2 ≤ 3
-by-three = omega arith
+-- before a turn of the code's loop: the loop from the start is the loop from here, and enough turns are left.
+pub record Going (f h w : ℕ) (start : List Float) (s : Stage) : Type 0 where
+  pub turns : ℕ
+  pub same : lastOf f h w start ≡ looped f turns s
+  pub enough : s .height ≤ turns
+  pub counted : s .narrowed + turns ≡ h
+  pub sound : Sound f h w (length start) s
 
-module _ (f : ℕ) (two : 2 ≤ f) where
-  pub sound-next : {h w long : ℕ} {s : Stage} → Sound h w long s → small (s .height / f) (s .width / f) ≡ false → Sound h w long (next f s)
+pub going-first : {f h w : ℕ} {planes : List Float} → FitPlanes (leastLocated f) h w planes → Going f h w planes (first h w planes)
+unfolding lastOf
+going-first {h = h} p = record { turns = h; same = refl; enough = omega arith; counted = omega arith; sound = sound-first p }
+
+module _ (f : ℕ) (i : FactorIn f) where
+  -- a narrowed side is at least 4
+  pub four : {h w long : ℕ} {s : Stage} → Sound f h w long s → (4 ≤ s .height / f) × (4 ≤ s .width / f)
+  four p =
+      let s = p .fit .sides in
+      let pos : 0 < f = omega (arith, i .low) in
+      (le-div-iff-mul-le pos .1 (omega (arith, s .low-h)), le-div-iff-mul-le pos .1 (omega (arith, s .low-w)))
+
+  pub sound-next : {h w long : ℕ} {s : Stage} → Sound f h w long s → small (s .height / f) (s .width / f) ≡ false
+      → Sound f h w long (next f s)
   sound-next {s = s} p e =
       let l = large (s .height / f) (s .width / f) e in
       record {
-        fit = narrow-fit f two leastSide (fit-lower 0 (omega arith) (p .fit)) (omega (arith, l .0)) (omega (arith, l .1));
+        fit = narrow-fit f (i .low) (leastLocated f) (fit-lower 0 (omega arith) (p .fit)) (omega (arith, i .high, l .0))
+            (omega (arith, i .high, l .1));
         high-h = omega (arith, p .high-h, div-le-self (s .height) f);
         high-w = omega (arith, p .high-w, div-le-self (s .width) f);
         area = omega (arith, p .area, smaller f (s .height) (s .width));
@@ -97,25 +114,14 @@ module _ (f : ℕ) (two : 2 ≤ f) where
       go true q false r ih z = ih (pass s p r) z
 
   -- where the loop ends well, the last screen is sound and not thin
-  pub last-sound : (h w : ℕ) (planes : List Float) → FitPlanes leastSide h w planes → lastOf f h w planes .tooSmall ≡ false
-      → Sound h w (length planes) (lastOf f h w planes .stage)
+  pub last-sound : (h w : ℕ) (planes : List Float) → FitPlanes (leastLocated f) h w planes → lastOf f h w planes .tooSmall ≡ false
+      → Sound f h w (length planes) (lastOf f h w planes .stage)
       × (thin (lastOf f h w planes .stage .height) (lastOf f h w planes .stage .width) (boundsAt (lastOf f h w planes .stage)) ≡ false)
   unfolding lastOf
-  last-sound h w planes p e = ends-well (Sound h w (length planes)) (λ s q r. sound-next q r) h (first h w planes) (sound-first p) e
+  last-sound h w planes p e = ends-well (Sound f h w (length planes)) (λ s q r. sound-next q r) h (first h w planes) (sound-first p) e
 
-  -- ---- the code's loop. Before a turn: the loop from the start is the loop from here, and enough turns are left.
-  pub record Going (h w : ℕ) (start : List Float) (s : Stage) : Type 0 where
-    pub turns : ℕ
-    pub same : lastOf f h w start ≡ looped f turns s
-    pub enough : s .height ≤ turns
-    pub counted : s .narrowed + turns ≡ h
-    pub sound : Sound h w (length start) s
-
-  pub going-first : {h w : ℕ} {planes : List Float} → FitPlanes leastSide h w planes → Going h w planes (first h w planes)
-  unfolding lastOf
-  going-first {h} p = record { turns = h; same = refl; enough = omega arith; counted = omega arith; sound = sound-first p }
-
-  module _ {h w : ℕ} {start : List Float} {s : Stage} (g : Going h w start s) where
+  -- ---- the code's loop
+  module _ {h w : ℕ} {start : List Float} {s : Stage} (g : Going f h w start s) where
     some : (m : ℕ) × (g .turns ≡ suc m)
     some = go (g .turns) (g .enough)
       where
@@ -135,13 +141,13 @@ module _ (f : ℕ) (two : 2 ≤ f) where
     going-small p q = rw (p, q) at here
 
     pub going-on : thin (s .height) (s .width) (boundsAt s) ≡ true → small (s .height / f) (s .width / f) ≡ false
-        → Going h w start (next f s)
+        → Going f h w start (next f s)
     going-on p q =
         record {
           turns = some .0;
           same = rw (p, q) at here;
           enough =
-              let less = div-lt-self {n = s .height} {k = f} (omega (arith, g .sound .fit .sides .low-h)) (omega (arith, two)) in
+              let less = div-lt-self {n = s .height} {k = f} (omega (arith, g .sound .fit .sides .low-h)) (omega (arith, i .low)) in
               omega (arith, g .enough, some .1, less);
           counted = omega (arith, g .counted, some .1);
           sound = sound-next (g .sound) q;

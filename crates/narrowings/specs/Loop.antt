@@ -1,4 +1,4 @@
--- 01, "Locating", first paragraph: the loop of narrowings, over the factor f.
+-- 01, "Locating", first paragraph, and 02, R-1: the loop of narrowings, over the factor f.
 use Prim.Native.Nat.{ℕ, zero, suc, _+_, _-_, _/_}
 use mathlib.Core.Bool.{Bool, true, false, cond, _||_}
 use mathlib.Core.List.{List}

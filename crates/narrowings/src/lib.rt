@@ -1,11 +1,10 @@
-// The loop of narrowings (01, "Locating", first paragraph): a screen is narrowed until both spans of its bounds are
-// large enough, or until it is too small. Definitions: specs/Loop, over the factor; the code narrows by 3. Laws for
-// callers: proofs/Turns.
+// The loop of narrowings (01, "Locating", first paragraph; 02, R-1): a screen is narrowed until both spans of its bounds are
+// large enough, or until it is too small. Definitions: specs/Loop. Laws for callers: proofs/Turns.
 ghost use mathlib.Core.Path.{_≡_};
 ghost use Prim.Native.Nat.{_*_, _≤_};
 ghost use lib.ListN.{length};
-ghost use Rattle.board.specs.Board.{leastPlaneSide, leastSide};
-ghost use Rattle.board.specs.Inner.{FitPlanes};
+ghost use Rattle.board.specs.Board.{leastPlaneSide, leastLocated};
+ghost use Rattle.board.specs.Inner.{FactorIn, FitPlanes};
 ghost use Rattle.narrowings.specs.Loop as Spec;
 ghost use Rattle.narrowings.specs.Loop.{first, boundsAt, lastOf};
 ghost use Rattle.narrowings.specs.Inner.{Looks, Narrows};
@@ -66,8 +65,9 @@ pub struct Narrowed {
     pub bounds: Bounds,
 }
 
-// Narrows the screen until both spans of its bounds are large enough. `start` are the bounds of the screen as it is.
+// Narrows the screen by the factor until both spans of its bounds are large enough. `start` are the bounds of the screen as it is.
 pub fn narrow_on(
+    factor: usize,
     height: usize,
     width: usize,
     start: Bounds,
@@ -75,18 +75,19 @@ pub fn narrow_on(
     scratch_f32: &mut [f32],
     scratch_u8: &mut [u8],
 ) -> Narrowed
-    requires { ⌜ FitPlanes leastSide height width (now planes) × (start ≡ boundsAt (first height width (now planes))) ⌝ }
+    requires { ⌜ FactorIn factor × FitPlanes (leastLocated factor) height width (now planes)
+        × (start ≡ boundsAt (first height width (now planes))) ⌝ }
     requires { ⌜ (height * width ≤ length (now «scratch_f32»)) × (height * width ≤ length (now «scratch_u8»)) ⌝ }
-    ensures { λ r. ⌜ Narrows (lastOf 3 height width (now (planes .entry))) r (now (planes .exit)) ⌝ }
+    ensures { λ r. ⌜ Narrows (lastOf factor height width (now (planes .entry))) r (now (planes .exit)) ⌝ }
 {
     let mut h = height;
     let mut w = width;
     let mut b = start;
     let mut n: u32 = 0;
     while thin(h, w, b) {
-        narrow::narrow(h, w, planes, scratch_f32);
-        h = h / 3;
-        w = w / 3;
+        narrow::narrow(factor, h, w, planes, scratch_f32);
+        h = h / factor;
+        w = w / factor;
         n = n + 1;
         if small(h, w) {
             return Narrowed {

@@ -1,11 +1,10 @@
 -- Entry j of a sorted list by counting: its key is at most v exactly where more than j entries are. Assumes nothing.
 use Prim.Native.Nat.{ℕ, _+_, _≤_, _<_}
-use mathlib.Core.Path.{_≡_, refl, sym, _∙_}
-use mathlib.Core.Bool.{Bool, true, false}
+use mathlib.Core.Path.{_≡_, sym, _∙_}
 use mathlib.Core.List.{List}
 use native.Mathlib.Nat.{le-antisymm, le-refl, le-of-suc-le-suc, lt-of-not-le, lt-irrefl}
 use native.Mathlib.Omega.{arith}
-use borrow.Author.Tests.{leb-true, le-leb, lt-leb, lt-ltb, ltb-true, ltb-false}
+use borrow.Author.Tests.{leb-true, le-leb, lt-ltb, ltb-true}
 use lib.Dec.{leb, ltb}
 use lib.ListN.{length, List·getD-eq-default}
 use Rattle.rank.specs.Rank.{sort, entry}
@@ -30,13 +29,6 @@ module _ {A : Type 0} (key : A → ℕ) (d : A) where
   pub entry-none : (l : List A) (j : ℕ) → length l ≤ j → entry key d l j ≡ d
   unfolding entry
   entry-none l j h = List·getD-eq-default (sort key l) d {n = j} (omega (arith, length-sort key l))
-
-  pub entry-leb : (v : ℕ) (l : List A) (j : ℕ) → j < length l → leb (key (entry key d l j)) v ≡ ltb j (countAtMost key v l)
-  entry-leb v l j h = go (ltb j (countAtMost key v l)) refl
-    where
-      go : (t : Bool) → ltb j (countAtMost key v l) ≡ t → leb (key (entry key d l j)) v ≡ t
-      go true e = le-leb _ _ (at-least v l j h (ltb-true _ _ e))
-      go false e = lt-leb _ _ (at-most v l j h (ltb-false _ _ e))
 
   -- x has the key of entry j if its key is at most v exactly where more than j entries are
   pub entry-key : (x : A) (l : List A) (j : ℕ) → j < length l → ((v : ℕ) → leb (key x) v ≡ ltb j (countAtMost key v l))

@@ -3,8 +3,9 @@
 use Prim.Native.Nat.{ℕ}
 use mathlib.Core.Bool.{cond}
 use mathlib.Core.List.{List, [], _∷_}
-use lib.ListN.{getD}
 use lib.Dec.{leb}
+use lib.Ieee.{Float, nan, binary32, toBits}
+use lib.ListN.{getD}
 
 -- the key of a whole number is the number
 abbrev pub self : ℕ → ℕ
@@ -23,3 +24,7 @@ module _ {A : Type 0} (key : A → ℕ) where
   -- entry j of the sorted list, and d where the list is too short
   unfoldable pub entry : A → List A → ℕ → A
   entry d l j = getD (sort l) j d
+
+-- entry j of binary32 values sorted rising
+abbrev pub ranked : List Float → ℕ → Float
+ranked l j = entry (toBits binary32) nan l j

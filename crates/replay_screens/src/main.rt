@@ -1,7 +1,9 @@
 // Replays screens that the Rust was run on: standard input holds them, one after another: height and width, two bytes each, low byte
-// first, then the pixels. A line each has the answer and the record; what is printed is held to the file stdout, which has the
-// Rust's fields (scripts/answers locate), and 01's number where the Rust does not read.
+// first, then the pixels. A line for each factor has the answer, the record and values of the planes that are left; what is printed
+// is held to the file stdout, which has the Rust's (scripts/answers locate), and 01's number where the Rust does not read. The screens
+// are too small to be read after a narrowing by 4 or 5: with these what is narrowed answers 5.
 ghost use Prim.Native.Nat.{_<_};
+use board::Board;
 use libc::STDIN_FILENO;
 use libc::STDOUT_FILENO;
 use locate::Located;
@@ -19,8 +21,17 @@ fn bits(x: f32) -> u32 {
     if x != x { 4294967295 } else { f32::to_bits(x) }
 }
 
-// The answer and the record in a line.
-fn show(l: Located) {
+// The bits of a plane value, after a blank. The planes are never so short that 0 is printed for it.
+fn value(planes: &[f32], at: usize) {
+    if planes.len() <= at {
+        number(0);
+        return;
+    }
+    number(bits(planes[at]) as u64);
+}
+
+// The answer, the record and four plane values in a line. The smallest screen has more, so that none is of the screen before.
+fn show(l: Located, planes: &[f32]) {
     let b = l.board;
     io::print_decimal(STDOUT_FILENO, l.answer as u64);
     number(b.height as u64);
@@ -33,6 +44,10 @@ fn show(l: Located) {
     number(b.c as u64);
     number(bits(b.pixelr) as u64);
     number(bits(b.pixelc) as u64);
+    value(planes, 7);
+    value(planes, 777);
+    value(planes, 1777);
+    value(planes, 2777);
     io::write_all(STDOUT_FILENO, b"\n");
 }
 
@@ -57,8 +72,10 @@ fn read_pixels(height: usize, width: usize, pixels: &mut [u8]) -> bool {
     io::read_full(STDIN_FILENO, &mut pixels[..n]) == n
 }
 
-// Loads a screen, locates its board and prints the line. The record of a screen that does not load is zeros, which locating refuses.
+// Loads a screen, locates its board by the factor and prints the line. The record of a screen that does not load is zeros, which
+// locating refuses.
 fn replay(
+    factor: usize,
     height: usize,
     width: usize,
     pixels: &[u8],
@@ -70,15 +87,47 @@ fn replay(
     scratch_u32: &mut [u32],
 ) {
     let loaded = load::new(height, width, pixels, planes);
-    show(locate::get_pos_pixel(
+    let l = locate::get_pos_pixel(
         loaded.board,
+        factor,
         planes,
         edges,
         scores,
         scratch_f32,
         scratch_u8,
         scratch_u32,
-    ));
+    );
+    show(l, planes);
+}
+
+// A screen by each factor.
+fn replay_each(
+    height: usize,
+    width: usize,
+    pixels: &[u8],
+    planes: &mut [f32],
+    edges: &mut [u8],
+    scores: &mut [u32],
+    scratch_f32: &mut [f32],
+    scratch_u8: &mut [u8],
+    scratch_u32: &mut [u32],
+) {
+    let mut factor = Board::LEAST_FACTOR;
+    while factor <= Board::MOST_FACTOR {
+        replay(
+            factor,
+            height,
+            width,
+            pixels,
+            planes,
+            edges,
+            scores,
+            scratch_f32,
+            scratch_u8,
+            scratch_u32,
+        );
+        factor = factor + 1;
+    }
 }
 
 // Replays the next screen; false where no whole screen is left.
@@ -100,7 +149,7 @@ fn replayed(
     if !read_pixels(height, width, pixels) {
         return false;
     }
-    replay(
+    replay_each(
         height,
         width,
         pixels,

@@ -19,7 +19,7 @@ use Rattle.locate.specs.Locate.{foundIn}
 use Rattle.reply.specs.Values.{located, alone}
 use Rattle.header.specs.declared.Input.the-variants.{Sides, Refused}
 use Rattle.header.specs.Header.{mostShown, headerOf}
-use Rattle.reply.specs.Answer.{valuesOf, valuesFor, answerTo}
+use Rattle.reply.specs.Answer.{factor, valuesOf, valuesFor, answerTo}
 use Rattle.reply.proofs.Loading.{planesOf, planes-length, answer-is, planes-are, board-is, planes-fit}
 use Rattle.reply.proofs.Locating.{mostArea, area}
 
@@ -61,13 +61,13 @@ module _ {h w : ℕ} {pixels : List ℕ} {r : Loaded} {before after : List Float
         × (r .board .width ≤ 64)
     lent-fit byte a b = rw (board-is loads sized accepted, lent-is) (planes-fit loads sized accepted byte, a, b)
 
-    values-are : valuesOf h w pixels ≡ located (foundIn (fresh h w) (planesOf h w pixels))
+    values-are : valuesOf h w pixels ≡ located (foundIn (fresh h w) factor (planesOf h w pixels))
     unfolding valuesOf
     values-are = accepting (loadAnswer h w (length pixels) (3 * (h * w))) _ _ (sym (answer-is loads sized) ∙ accepted)
 
-    pub prints : {l : Located} → l ≡ foundIn (r .board) (take (3 * (h * w)) (after ++ rest)) → located l ≡ valuesOf h w pixels
+    pub prints : {l : Located} → l ≡ foundIn (r .board) factor (take (3 * (h * w)) (after ++ rest)) → located l ≡ valuesOf h w pixels
     prints {l} e =
-        let is : foundIn (r .board) (take (3 * (h * w)) (after ++ rest)) ≡ foundIn (fresh h w) (planesOf h w pixels) =
+        let is : foundIn (r .board) factor (take (3 * (h * w)) (after ++ rest)) ≡ foundIn (fresh h w) factor (planesOf h w pixels) =
         rw (board-is loads sized accepted, lent-is) in
         ap located (e ∙ is) ∙ sym values-are
 

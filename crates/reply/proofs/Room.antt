@@ -24,7 +24,7 @@ use Rattle.header.specs.Header.{headerOf}
 use Rattle.header.proofs.Cut.{header-front}
 use Rattle.header.proofs.Sides.{Shown, header-shown}
 use Rattle.reply.specs.Values.{located, alone}
-use Rattle.reply.specs.Answer.{valuesOf, valuesFor, answerTo, room}
+use Rattle.reply.specs.Answer.{factor, valuesOf, valuesFor, answerTo, room}
 use Rattle.reply.proofs.Locating.{area}
 
 -- a cut at m leaves a test of the length below m as it was
@@ -37,7 +37,7 @@ test-front pixels m n h = go (ltb (length pixels) n) refl
 
 -- what is printed where loading answers this and leaves these planes
 abbrev printed : ℕ → ℕ → ℕ → List Float → List ℕ
-printed h w answer planes = cond (eqb answer 0) (located (foundIn (fresh h w) planes)) (alone answer)
+printed h w answer planes = cond (eqb answer 0) (located (foundIn (fresh h w) factor planes)) (alone answer)
 
 module _ (h w : ℕ) (pixels : List ℕ) (m : ℕ) (whole : 4 * (h * w) ≤ m) where
   level-front : (k n : ℕ) → n < h * w

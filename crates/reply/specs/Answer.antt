@@ -13,12 +13,16 @@ use Rattle.header.specs.declared.Input.the-variants.{Sides, Refused}
 use Rattle.header.specs.Header.{sidesLine, mostShown, headerOf}
 use Rattle.reply.specs.Values.{located, alone}
 
+-- what the program narrows by
+abbrev pub factor : ℕ
+factor = 3
+
 -- of a screen with these sides and pixels: it is loaded, into planes of its size, and located; where loading refused, its answer alone
 unfoldable pub valuesOf : ℕ → ℕ → List ℕ → List ℕ
 unfolding loadAnswer
 valuesOf h w pixels =
     let answer = loadAnswer h w (length pixels) (3 * (h * w)) in
-    cond (eqb answer 0) (located (foundIn (fresh h w) (packed (shown mostByte h w pixels)))) (alone answer)
+    cond (eqb answer 0) (located (foundIn (fresh h w) factor (packed (shown mostByte h w pixels)))) (alone answer)
 
 -- where the first two lines say this: the pixels stand behind them, and a refusal is printed alone
 unfoldable pub valuesFor : List ℕ → Input → List ℕ

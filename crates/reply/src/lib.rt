@@ -12,7 +12,7 @@ ghost use Rattle.locate.specs.Locate.{foundIn};
 ghost use Rattle.header.specs.Header.{mostShown};
 ghost use Rattle.reply.specs.Values as Spec;
 ghost use Rattle.reply.specs.Values.{textOf, textRoom};
-ghost use Rattle.reply.specs.Answer.{valuesOf, answerTo, room};
+ghost use Rattle.reply.specs.Answer.{factor, valuesOf, answerTo, room};
 use board::Board;
 use header::FIRST_LINE;
 use header::Input;
@@ -68,10 +68,13 @@ fn alone(answer: u32) -> [u64; VALUES]
     [answer as u64, 0, 0, 0, 0, 0, 0, 0, 0, 0, 0, 0, 0, 0]
 }
 
+// What the program narrows by.
+const FACTOR: usize = 3;
+
 // Locates a screen of at most 64 by 64 whose planes are fit.
 fn locate_shown(b: Board, planes: &mut [f32]) -> Located
     requires { ⌜ FitPlanes leastSide (b .height) (b .width) (now planes) × (b .height ≤ mostShown) × (b .width ≤ mostShown) ⌝ }
-    ensures { λ r. ⌜ r ≡ foundIn b (now (planes .entry)) ⌝ }
+    ensures { λ r. ⌜ r ≡ foundIn b factor (now (planes .entry)) ⌝ }
 {
     let mut edges: [u8; AREA] = [0; AREA];
     let mut scores: [u32; SIDES] = [0; SIDES];
@@ -80,6 +83,7 @@ fn locate_shown(b: Board, planes: &mut [f32]) -> Located
     let mut scratch_u32: [u32; 4 * SIDES] = [0; 4 * SIDES];
     locate::get_pos_pixel(
         b,
+        FACTOR,
         planes,
         &mut edges,
         &mut scores,

@@ -2,6 +2,7 @@
 //! as asked.
 
 use crate::original::locate::{traced, Traced};
+use crate::original::probe::OWN_FACTOR;
 use crate::rng::Rng;
 use crate::screens::{self, Drawn};
 
@@ -28,7 +29,7 @@ impl Kind {
                 }
                 pixels
             }
-            Kind::Textured => screens::textured(rng, height, width, 1),
+            Kind::Textured => screens::textured(rng, height, width, OWN_FACTOR, 1),
             Kind::Blank => screens::blank(height, width, rng.word() as u8),
         }
     }
@@ -56,7 +57,7 @@ impl Asked {
         let first = (self.height * self.width) as u64;
         for seed in first..first + SEEDS {
             let pixels = self.kind.pixels(&mut Rng::new(seed), self.height, self.width);
-            let run = traced(&pixels, self.height, self.width)?;
+            let run = traced(&pixels, self.height, self.width, OWN_FACTOR)?;
             if self.fits(&run) {
                 return Ok((pixels, run));
             }

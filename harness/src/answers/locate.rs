@@ -1,10 +1,13 @@
 //! Screens and what locating leaves of each, for crates/replay_screens. The file has the screens one
-//! after another: height and width, two bytes each, low byte first, then the pixels. A line each has
-//! the answer and the Rust's fields afterwards, the pitches by their bits. The answer is 0 where the
-//! Rust reads the board; where it returns early or panics, 01's number for that.
+//! after another: height and width, two bytes each, low byte first, then the pixels. A line for each
+//! factor has the answer, the Rust's fields afterwards and values of its planes, pitches and values by
+//! their bits. The answer is 0 where the Rust reads the board; where it returns early or panics, 01's
+//! number for that.
 
 use super::asked::{Asked, Kind};
+use crate::original::locate::traced;
 use crate::record::Record;
+use crate::FACTORS;
 use std::fs;
 use std::path::Path;
 
@@ -31,17 +34,25 @@ const ASKED: &[Asked] = &[
     Asked { kind: Kind::Board, height: 58, width: 45, answer: 8, narrowed: 0 },
 ];
 
+/// Places of the values; where the planes that are left end before one, 0.0 stands there.
+const PLACES: [usize; 4] = [7, 777, 1777, 2777];
+
 /// Writes the screens, and prints the lines.
 pub fn write(file: &Path) -> Result<(), String> {
     let mut screens = vec![];
     for asked in ASKED {
-        let (pixels, run) = asked.found()?;
+        let (pixels, _) = asked.found()?;
         for side in [asked.height, asked.width] {
             screens.extend((side as u16).to_le_bytes());
         }
+        for factor in FACTORS {
+            let run = traced(&pixels, asked.height, asked.width, factor)?;
+            let Record { height, width, r_1, c_1, r0, c0, r, c, pixelr, pixelc } = run.record;
+            let values = PLACES.map(|at| run.planes.get(at).map_or(0, |x| x.to_bits()).to_string());
+            print!("{} {height} {width} {r_1} {c_1} {r0} {c0} {r} {c} ", run.answer);
+            println!("{pixelr} {pixelc} {}", values.join(" "));
+        }
         screens.extend(pixels);
-        let Record { height, width, r_1, c_1, r0, c0, r, c, pixelr, pixelc } = run.record;
-        println!("{} {height} {width} {r_1} {c_1} {r0} {c0} {r} {c} {pixelr} {pixelc}", run.answer);
     }
     fs::write(file, screens).map_err(|error| format!("{}: {error}", file.display()))
 }

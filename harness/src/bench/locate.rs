@@ -1,8 +1,9 @@
-//! Locating alone and with loading. What is lent to the port is warm; planes and numbers are made
-//! anew each time, outside the measured part.
+//! Locating alone and with loading, by the factor of the Rust. What is lent to the port is warm; planes
+//! and numbers are made anew each time, outside the measured part.
 
 use super::screen::Kind;
 use super::{least, timed};
+use crate::original::probe::OWN_FACTOR;
 use crate::original::{load, ImageBoard};
 use crate::port::{self, Located, Slices};
 use crate::quiet::caught;
@@ -35,7 +36,12 @@ impl Room {
 
     fn locate(&mut self, board: port::Board) -> Located {
         let Room { planes, edges, scores, scratch_f32, scratch_u8, scratch_u32 } = self;
-        port::locate(board, planes, Slices { edges, scores, scratch_f32, scratch_u8, scratch_u32 })
+        port::locate(
+            board,
+            OWN_FACTOR,
+            planes,
+            Slices { edges, scores, scratch_f32, scratch_u8, scratch_u32 },
+        )
     }
 }
 

@@ -1,4 +1,4 @@
-//! One narrowing. The planes are made anew each time, outside the measured part.
+//! One narrowing by a factor. The planes are made anew each time, outside the measured part.
 
 use super::screen::Kind;
 use super::{least, timed};
@@ -8,7 +8,7 @@ use crate::port::inner;
 use crate::record::Record;
 use std::time::Duration;
 
-pub fn measure(kind: Kind, height: usize, width: usize) -> (Duration, Duration) {
+pub fn measure(factor: usize, kind: Kind, height: usize, width: usize) -> (Duration, Duration) {
     let planes = kind.planes(height, width);
     let mut lent = planes.clone();
     let mut scratch = vec![0.0; height * width];
@@ -16,15 +16,16 @@ pub fn measure(kind: Kind, height: usize, width: usize) -> (Duration, Duration) 
     let times = least(
         || {
             let mut board = steps::board(&record, &planes);
-            timed(|| steps::narrow(&mut board))
+            timed(|| steps::narrow(&mut board, factor))
         },
         || {
             lent.copy_from_slice(&planes);
-            timed(|| inner::narrow(height, width, &mut lent, &mut scratch))
+            timed(|| inner::narrow(factor, height, width, &mut lent, &mut scratch))
         },
     );
     let mut board = steps::board(&record, &planes);
-    steps::narrow(&mut board);
-    assert!(load::planes(&board).eq(lent[..height / 3 * (width / 3) * 3].iter().copied()));
+    steps::narrow(&mut board, factor);
+    let left = 3 * (height / factor) * (width / factor);
+    assert!(load::planes(&board).eq(lent[..left].iter().copied()), "both did the same work");
     times
 }

@@ -2,6 +2,7 @@
 
 use super::screen::Kind;
 use super::{least, timed};
+use crate::original::probe::OWN_FACTOR;
 use crate::original::{load, probed, steps};
 use crate::port;
 use crate::quiet::caught;
@@ -13,8 +14,8 @@ pub fn measure(height: usize, width: usize) -> Vec<(String, (Duration, Duration)
     let mut out = vec![];
     for kind in [Kind::Clean, Kind::Noisy] {
         let numbers = load::numbers(&kind.pixels(height, width));
-        let (seen, ..) = probed::locate(numbers, height, width);
-        let (columns, rows) = seen.scores.expect("a board is read");
+        let ran = probed::locate(numbers, height, width, OWN_FACTOR);
+        let (columns, rows) = ran.seen.scores.expect("a board is read");
         out.push((format!("{} columns", kind.name()), one(&columns)));
         out.push((format!("{} rows", kind.name()), one(&rows)));
     }

@@ -1,6 +1,7 @@
 //! The screens that are measured on.
 
 use crate::original::load::{numbers, planes};
+use crate::original::probe::OWN_FACTOR;
 use crate::original::ImageBoard;
 use crate::rng::Rng;
 use crate::screens::{self, Drawn, Pixel};
@@ -37,7 +38,7 @@ impl Kind {
                 pixels
             }
             Kind::Blank => screens::blank(height, width, 190),
-            Kind::Narrowed => screens::textured(rng, height, width, 1),
+            Kind::Narrowed => screens::textured(rng, height, width, OWN_FACTOR, 1),
         }
     }
 

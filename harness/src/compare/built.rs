@@ -1,12 +1,14 @@
 //! Screens that are the same in every run, each built for one end of locating.
 
+use crate::original::probe::OWN_FACTOR;
 use crate::rng::Rng;
 use crate::screens::{self, Drawn, Pixel};
 
-/// How the Rust's locating ends: 01's number, whether it returns, and how often it narrows.
+/// How the Rust's locating ends: 01's number, none for a panic before the scores, whether it returns,
+/// and how often it narrows.
 #[derive(Clone, Copy, Debug, PartialEq)]
 pub struct End {
-    pub answer: u32,
+    pub answer: Option<u32>,
     pub returns: bool,
     pub narrowed: u32,
 }
@@ -14,8 +16,11 @@ pub struct End {
 #[derive(Debug)]
 enum Look {
     Blank,
-    /// Texture and a flat bar, which a narrowing closes.
-    Textured,
+    /// Texture and a flat bar, which as many narrowings close.
+    Textured {
+        seed: u64,
+        narrowings: u32,
+    },
     /// A board from this row and column on, with these pitches down and across.
     Board {
         from: [usize; 2],
@@ -27,6 +32,7 @@ enum Look {
 pub struct Built {
     pub height: usize,
     pub width: usize,
+    pub factor: usize,
     pub end: End,
     look: Look,
 }
@@ -38,7 +44,9 @@ impl Built {
         let (height, width) = (self.height, self.width);
         match self.look {
             Look::Blank => screens::blank(height, width, 100),
-            Look::Textured => screens::textured(&mut Rng::new(1), height, width, 1),
+            Look::Textured { seed, narrowings } => {
+                screens::textured(&mut Rng::new(seed), height, width, self.factor, narrowings)
+            }
             Look::Board { from: [top, left], pitch: [down, across] } => Drawn {
                 top,
                 left,
@@ -54,36 +62,86 @@ impl Built {
     }
 }
 
+/// Not narrowed, so that it ends alike for every factor that its sides allow.
 const fn board(sides: [usize; 2], from: [usize; 2], pitch: [usize; 2], answer: u32) -> Built {
-    let end = End { answer, returns: !matches!(answer, 6 | 8), narrowed: 0 };
-    Built { height: sides[0], width: sides[1], end, look: Look::Board { from, pitch } }
+    let end = End { answer: Some(answer), returns: !matches!(answer, 6 | 8), narrowed: 0 };
+    let look = Look::Board { from, pitch };
+    Built { height: sides[0], width: sides[1], factor: OWN_FACTOR, end, look }
+}
+
+/// Too small after one narrowing.
+const fn blank(factor: usize, sides: [usize; 2]) -> Built {
+    let end = End { answer: Some(5), returns: true, narrowed: 1 };
+    Built { height: sides[0], width: sides[1], factor, end, look: Look::Blank }
+}
+
+/// A panic where the planes are to be narrowed, or in the step after that.
+const fn panics(factor: usize, sides: [usize; 2]) -> Built {
+    Built { end: End { answer: None, returns: false, narrowed: 0 }, ..blank(factor, sides) }
+}
+
+/// Read after as many narrowings.
+const fn textured(factor: usize, sides: [usize; 2], narrowings: u32, seed: u64) -> Built {
+    let end = End { answer: Some(0), returns: true, narrowed: narrowings };
+    let look = Look::Textured { seed, narrowings };
+    Built { height: sides[0], width: sides[1], factor, end, look }
+}
+
+/// The same screen by another factor.
+const fn by(factor: usize, built: Built) -> Built {
+    Built { factor, ..built }
 }
 
 /// Screens on which the port departs from the Rust, or adds to it. Of the far lines one lies a third
 /// of the way, so that the scan follows it.
 pub const DEPARTURES: &[Built] = &[
-    Built {
-        height: 40,
-        width: 44,
-        end: End { answer: 5, returns: true, narrowed: 1 },
-        look: Look::Blank,
-    },
+    blank(3, [40, 44]),
     board([42, 55], [3, 2], [12, 4], 6),
     board([60, 647], [4, 5], [12, 210], 7),
     board([647, 647], [5, 5], [210, 210], 7),
     Built {
-        end: End { answer: 7, returns: false, narrowed: 0 },
+        end: End { answer: Some(7), returns: false, narrowed: 0 },
         ..board([42, 647], [1, 5], [4, 210], 7)
     },
     board([55, 42], [2, 3], [4, 12], 8),
     board([647, 60], [5, 4], [210, 12], 9),
-    board([60, 64], [7, 5], [12, 11], 0),
-    Built {
-        height: 240,
-        width: 260,
-        end: End { answer: 0, returns: true, narrowed: 1 },
-        look: Look::Textured,
-    },
+    SMALL,
+    textured(3, [240, 260], 1, 1),
+    // factors that the port refuses
+    by(0, SMALL),
+    panics(0, [40, 44]),
+    by(1, SMALL),
+    blank(1, [66, 90]),
+    by(6, SMALL),
+    blank(6, [24, 44]),
+    textured(6, [407, 431], 1, 10),
+    panics(6, [23, 44]),
+    // sides that it refuses for their factor
+    by(4, board([15, 30], [1, 2], [5, 13], 0)),
+    panics(4, [15, 40]),
+    panics(4, [44, 12]),
+    by(5, board([16, 30], [1, 0], [5, 11], 0)),
+    panics(5, [40, 19]),
+    panics(5, [12, 44]),
+];
+
+/// A board that every factor reads.
+const SMALL: Built = board([60, 64], [7, 5], [12, 11], 0);
+
+/// Screens that are read after one narrowing and after two by each factor. The first narrowing of each
+/// leaves rows and columns over.
+pub const READ_NARROWED: &[Built] = &[
+    textured(2, [135, 151], 1, 10),
+    textured(3, [205, 230], 1, 10),
+    textured(4, [271, 303], 1, 10),
+    textured(5, [339, 368], 1, 10),
+    textured(2, [271, 301], 2, 2),
+    textured(3, [611, 640], 2, 2),
+    textured(4, [1079, 1103], 2, 12),
+    textured(4, [1079, 1103], 2, 17),
+    textured(5, [1684, 1699], 2, 8),
+    textured(5, [1684, 1699], 2, 12),
+    textured(2, [543, 571], 3, 12),
 ];
 
 /// Large screens that are read: one of everyday sides, one whose sample's size m has another

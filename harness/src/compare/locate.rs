@@ -1,107 +1,123 @@
-//! Locating beside `get_pos_pixel`: every field, the planes, the first edge picture and both score
-//! lists. The lists and the votes come from the probed copy, which must do as the unchanged file does.
+//! Locating beside `get_pos_pixel`, with each factor: every field, the planes, the first edge picture
+//! and both score lists. All comes from the probed copy, which narrows by the factor; with that of the
+//! unchanged file it must do as this does.
 
-use super::built::{Built, End, DEPARTURES, LARGE};
+use super::built::{Built, End, DEPARTURES, LARGE, READ_NARROWED};
 use super::lent::Lent;
 use super::met::{as_built, Met, Row};
 use super::values::UNFIT;
 use super::{Outcome, Run, Tally};
 use crate::original::load::{numbers, planes};
-use crate::original::locate::{traced, Traced};
+use crate::original::locate::{answer_of, traced, Traced};
+use crate::original::probe::OWN_FACTOR;
+use crate::original::probed::{self, Ran};
 use crate::original::{steps, ImageBoard};
 use crate::port::{self, Board, Located, Slices};
 use crate::quiet::caught;
 use crate::record::Record;
 use crate::rng::Rng;
 use crate::screens::{self, Drawn};
+use crate::FACTORS;
 
 const LEAST: usize = 12;
 const MOST: usize = 4096;
 
+/// The least side of a narrowed screen that can still be read.
+const READABLE: usize = 67;
+
+/// A factor, a number of narrowings, and how many screens are compared that are read after as many, in
+/// the short run and in the long; both have those of `READ_NARROWED` too.
+const READS: &[(usize, u32, u64, u64)] = &[
+    (2, 1, 15, 600),
+    (3, 1, 15, 1_000),
+    (4, 1, 10, 500),
+    (5, 1, 10, 400),
+    (2, 2, 5, 150),
+    (3, 2, 2, 100),
+    (4, 2, 0, 40),
+    (5, 2, 0, 25),
+    (2, 3, 0, 30),
+];
+
+/// The least side that locating takes with a factor (02, R-1).
+fn least_side(factor: usize) -> usize {
+    LEAST.max(4 * factor)
+}
+
 pub fn compare(run: &Run) -> Outcome {
     let mut cases = Cases::new(run.seed)?;
     cases.met.built = true;
-    for built in DEPARTURES.iter().chain(LARGE) {
+    for built in DEPARTURES.iter().chain(READ_NARROWED).chain(LARGE) {
         cases.built(built)?;
     }
     cases.met.built = false;
-    cases.screen(LEAST, LEAST, &screens::blank(LEAST, LEAST, 0))?;
-    for _ in 0..run.choose(1_500, 110_000) {
+    for factor in FACTORS {
+        let least = least_side(factor);
+        cases.screen(factor, least, least, &screens::blank(least, least, 0))?;
+    }
+    for _ in 0..run.choose(3_000, 220_000) {
+        // some are too small for their factor
         let (height, width) = (cases.rng.between(LEAST, 80), cases.rng.between(LEAST, 80));
         cases.any(height, width)?;
     }
-    for _ in 0..run.choose(30, 2_000) {
-        let (height, width) = (cases.rng.between(201, 330), cases.rng.between(201, 330));
-        let pixels = screens::textured(&mut cases.rng, height, width, 1);
-        cases.screen(height, width, &pixels)?;
-    }
-    for _ in 0..run.choose(4, 200) {
-        let (height, width) = (cases.rng.between(603, 760), cases.rng.between(603, 760));
-        let pixels = screens::textured(&mut cases.rng, height, width, 3);
-        cases.screen(height, width, &pixels)?;
+    for &(factor, narrowings, short, long) in READS {
+        cases.read(factor, narrowings, run.choose(short, long))?;
     }
     for _ in 0..run.choose(6, 200) {
         cases.far(true)?;
         cases.far(false)?;
     }
-    for _ in 0..run.choose(10, 300) {
+    for _ in 0..run.choose(16, 400) {
         let (height, width) = (cases.rng.between(80, 400), cases.rng.between(80, 400));
         cases.any(height, width)?;
     }
-    for (height, width) in [(LEAST, MOST), (MOST, LEAST), (205, 1500), (1400, 210)] {
-        for _ in 0..run.choose(1, 30) {
-            cases.any(height, width)?;
+    for factor in FACTORS {
+        let least = least_side(factor);
+        for (height, width) in [(least, MOST), (MOST, least), (205, 1500), (1400, 210)] {
+            for _ in 0..run.choose(1, 10) {
+                cases.any_by(factor, height, width)?;
+            }
         }
     }
     if run.long {
-        for _ in 0..40 {
+        for _ in 0..60 {
             let (height, width) = (cases.rng.between(400, 2200), cases.rng.between(400, 2200));
             cases.any(height, width)?;
         }
-        for (height, width) in [(1080, 1920), (2420, 2604), (MOST, MOST)] {
-            cases.any(height, width)?;
+        for factor in FACTORS {
+            for (height, width) in [(1080, 1920), (2420, 2604), (MOST, MOST)] {
+                cases.any_by(factor, height, width)?;
+            }
+            cases.screen(factor, MOST, MOST, &screens::blank(MOST, MOST, 77))?;
         }
     }
     refusals(&mut cases)?;
-    let answers: Vec<String> =
-        (0..10).filter(|&n| n != 2).map(|n| format!("{n}: {}", cases.answers[n])).collect();
-    Ok(Tally {
-        cases: cases.count,
-        note: format!(
-            "; answers {}; read after 0, 1, 2 and more narrowings: {:?}{}",
-            answers.join(", "),
-            cases.read_after,
-            cases.met.note()?
-        ),
-    })
+    Ok(Tally { cases: cases.count, note: cases.note()? })
 }
 
+/// What is wrong with a call, a bit each, in the order in which it is looked for.
+const BAD_FACTOR: usize = 1;
+const BAD_SIDE: usize = 2;
+const SHORT: usize = 4;
+const BAD_VALUE: usize = 8;
+
+/// Every set of faults, with each fault of many kinds.
 fn refusals(cases: &mut Cases) -> Result<(), String> {
-    // short slices, alone and together, with a bad value too
-    for _ in 0..300 {
-        let (height, width) = (cases.rng.between(LEAST, 30), cases.rng.between(LEAST, 30));
-        let pixels = screens::noise(&mut cases.rng, height, width);
-        let mut call = Call::fitting(height, width);
-        for _ in 0..cases.rng.below(3) {
-            let which = cases.rng.below(6);
-            let by = cases.rng.pick(&[1, 2, 30, 5000]);
-            call.lengths[which] = call.lengths[which].saturating_sub(by);
+    for faults in 0..2 * BAD_VALUE {
+        for _ in 0..60 {
+            let factor = cases.factor();
+            let least = least_side(factor);
+            let (height, width) = (cases.rng.between(least, 30), cases.rng.between(least, 30));
+            let pixels = screens::noise(&mut cases.rng, height, width);
+            let call = cases.faulty(factor, height, width, faults);
+            cases.one(&pixels, &call)?;
         }
-        if cases.rng.below(2) == 0 {
-            call.bad = Some((cases.rng.below(3 * height * width), cases.rng.pick(UNFIT)));
-        }
-        cases.one(&pixels, &call)?;
     }
     for side in [0, 1, 4, 11, MOST + 1, 1 << 32, 1 << 63, usize::MAX] {
         for turn in 0..3 {
             let pixels = screens::noise(&mut cases.rng, 20, 20);
-            let mut call = Call::fitting(20, 20);
-            if turn != 0 {
-                call.given.height = side;
-            }
-            if turn != 1 {
-                call.given.width = side;
-            }
+            let mut call = Call::fitting(cases.factor(), 20, 20);
+            call.set_sides(turn, side);
             cases.one(&pixels, &call)?;
             call.lengths = [0; 6];
             cases.one(&pixels, &call)?;
@@ -116,6 +132,7 @@ struct Call {
     /// Sides of the pixels.
     height: usize,
     width: usize,
+    factor: usize,
     given: Record,
     /// Planes, edges, scores, and the scratch slices.
     lengths: [usize; 6],
@@ -123,30 +140,55 @@ struct Call {
 }
 
 impl Call {
-    fn fitting(height: usize, width: usize) -> Call {
+    fn fitting(factor: usize, height: usize, width: usize) -> Call {
         let area = height * width;
         let sides = height + width;
         Call {
             height,
             width,
+            factor,
             given: Record { height, width, ..Record::default() },
             lengths: [3 * area, area, sides, area, area, 4 * sides],
             bad: None,
         }
     }
 
-    /// The refusal that 01 asks for before anything is done.
+    /// The height, the width or both.
+    fn set_sides(&mut self, turn: usize, side: usize) {
+        if turn != 0 {
+            self.given.height = side;
+        }
+        if turn != 1 {
+            self.given.width = side;
+        }
+    }
+
+    /// The refusal that 01 and R-1 of 02 ask for before anything is done.
     fn rule(&self) -> Option<u32> {
         let Record { height, width, .. } = self.given;
-        let fits = |side| (LEAST..=MOST).contains(&side);
+        if !FACTORS.contains(&self.factor) {
+            return Some(13);
+        }
+        let fits = |side| (least_side(self.factor)..=MOST).contains(&side);
         if !fits(height) || !fits(width) {
             return Some(1);
         }
-        let asked = Call::fitting(height, width).lengths;
+        let asked = Call::fitting(self.factor, height, width).lengths;
         if self.lengths.iter().zip(asked).any(|(&have, want)| have < want) {
             return Some(3);
         }
         self.bad.is_some_and(|(at, _)| at < 3 * height * width).then_some(4)
+    }
+
+    /// Whether the factor alone is to blame for a refusal, and the Rust ends: by 1 it never does where it
+    /// narrows and no side is small, and by a large factor it asks for too much memory.
+    fn runs_beside(&self) -> bool {
+        let ends = match self.factor {
+            1 => self.height.min(self.width) < READABLE,
+            factor => factor < 100,
+        };
+        let own_sides = (self.given.height, self.given.width) == (self.height, self.width);
+        ends && own_sides && Call { factor: OWN_FACTOR, ..self.clone() }.rule().is_none()
     }
 }
 
@@ -163,6 +205,19 @@ const READ: &str = "a screen that is read, answer 0";
 const NARROWED: &str = "a screen that is narrowed";
 const EDGES: &str = "answers 0 and 5 to 9";
 const SCORES: &str = "answers 0 and 6 to 9";
+const FACTOR_0: &str = "factor 0";
+const FACTOR_1: &str = "factor 1, no narrowing needed or a side of at most 66";
+const FACTOR_6: &str = "a factor of 6 or more";
+const SIDE_BY_FACTOR: &str = "a side of 12 to 15 with factor 4, or of 12 to 19 with factor 5";
+/// Parts of the rows of factors: what the Rust does.
+const NOT_NARROWED: &str = "not narrowed";
+const PANICS: &str = "panics";
+const NARROWS: &str = "narrows";
+/// Parts of the row of sides.
+const BY_4_NOT_NARROWED: &str = "by 4, not narrowed";
+const BY_4_PANICS: &str = "by 4, panics";
+const BY_5_NOT_NARROWED: &str = "by 5, not narrowed";
+const BY_5_PANICS: &str = "by 5, panics";
 
 /// Rows marked (run): the departures, and what is handed back beside the record.
 const ROWS: &[Row] = &[
@@ -177,15 +232,29 @@ const ROWS: &[Row] = &[
     (NARROWED, &[]),
     (EDGES, &[]),
     (SCORES, &[]),
+    (FACTOR_0, &[NOT_NARROWED, PANICS]),
+    (FACTOR_1, &[NOT_NARROWED, NARROWS]),
+    (FACTOR_6, &[NOT_NARROWED, NARROWS, PANICS]),
+    (SIDE_BY_FACTOR, &[BY_4_NOT_NARROWED, BY_4_PANICS, BY_5_NOT_NARROWED, BY_5_PANICS]),
 ];
+
+/// What the screens of one factor came to.
+#[derive(Clone, Copy, Default)]
+struct ByFactor {
+    /// How many were read after 0, 1, 2 and more narrowings.
+    read_after: [u64; 4],
+    /// How many were narrowed with so many rows, and so many columns, left over.
+    left_over: [[u64; 5]; 2],
+}
 
 struct Cases {
     rng: Rng,
     count: u64,
-    answers: [u64; 10],
-    read_after: [u64; 4],
+    answers: [u64; 14],
+    /// From factor 2 on.
+    by_factor: [ByFactor; 4],
     met: Met,
-    /// Of the last screen that was looked at.
+    /// Of the last case, if the Rust was run on it.
     end: Option<End>,
 }
 
@@ -205,22 +274,62 @@ impl Cases {
         Ok(Cases {
             rng: Rng::new(seed),
             count: 0,
-            answers: [0; 10],
-            read_after: [0; 4],
+            answers: [0; 14],
+            by_factor: [ByFactor::default(); 4],
             met: Met::new("locating", ROWS)?,
             end: None,
         })
     }
 
     fn built(&mut self, built: &Built) -> Result<(), String> {
-        self.one(&built.pixels(), &Call::fitting(built.height, built.width))?;
+        self.one(&built.pixels(), &Call::fitting(built.factor, built.height, built.width))?;
         as_built(&format!("{built:?}"), Some(built.end), self.end)
     }
 
+    /// A factor that is taken; more often that of the unchanged file, which then runs too.
+    fn factor(&mut self) -> usize {
+        let other = self.rng.between(*FACTORS.start(), *FACTORS.end());
+        self.rng.pick(&[OWN_FACTOR, other])
+    }
+
+    fn of(&mut self, factor: usize) -> &mut ByFactor {
+        &mut self.by_factor[factor - FACTORS.start()]
+    }
+
+    /// How often each answer was met, and what the screens of each factor came to. An error where none
+    /// was read after one narrowing or after two, or where some number of rows or columns was never left
+    /// over.
+    fn note(&self) -> Result<String, String> {
+        let mut answers = vec![];
+        let mut reads = vec![];
+        for (answer, count) in self.answers.iter().enumerate().filter(|(_, &count)| count > 0) {
+            answers.push(format!("{answer}: {count}"));
+        }
+        for (factor, met) in FACTORS.zip(&self.by_factor) {
+            let [_, once, twice, _] = met.read_after;
+            let left_over = met.left_over.iter().all(|counts| !counts[1..factor].contains(&0));
+            if once == 0 || twice == 0 || !left_over {
+                let ByFactor { read_after, left_over } = met;
+                return Err(format!(
+                    "factor {factor} was not tried enough: read after 0, 1, 2 and more narrowings \
+                     {read_after:?}, narrowed with 0 to 4 rows and columns over {left_over:?}"
+                ));
+            }
+            reads.push(format!("by {factor} {:?}", met.read_after));
+        }
+        Ok(format!(
+            "; answers {}; read after 0, 1, 2 and more narrowings: {}{}",
+            answers.join(", "),
+            reads.join(", "),
+            self.met.note()?
+        ))
+    }
+
     /// Counts a screen that was looked at.
-    fn ended(&mut self, end: End, rows_read: bool) {
-        let End { answer, returns, narrowed } = end;
-        self.end = Some(end);
+    fn ended(&mut self, call: &Call, want: &Wanted) {
+        let Wanted { returns, rows_read, .. } = *want;
+        let Located { answer, narrowed, .. } = want.located;
+        self.end = Some(End { answer: Some(answer), returns, narrowed });
         self.answers[answer as usize] += 1;
         self.met.count(ANSWER);
         self.met.count(EDGES);
@@ -229,6 +338,12 @@ impl Cases {
         }
         if narrowed > 0 {
             self.met.count(NARROWED);
+            let factor = call.factor;
+            for (counts, side) in
+                self.of(factor).left_over.iter_mut().zip([call.height, call.width])
+            {
+                counts[side % factor] += 1;
+            }
         }
         match (answer, returns) {
             (5, _) => self.met.count(TOO_SMALL),
@@ -240,19 +355,71 @@ impl Cases {
             (8, _) => self.met.count(ROWS_NO_GAP),
             (9, _) => self.met.count(ROWS_FAR),
             _ => {
-                self.read_after[(narrowed as usize).min(3)] += 1;
+                self.of(call.factor).read_after[(narrowed as usize).min(3)] += 1;
                 self.met.count(READ);
             }
         }
     }
 
-    /// Noise, a drawn board with or without noise, one colour, or texture.
+    /// Runs the Rust where the port refuses for the factor alone: it must do as docs/DIFFERENCES.md says.
+    fn beside(&mut self, pixels: &[u8], call: &Call) -> Result<(), String> {
+        let Call { height, width, factor, .. } = *call;
+        let ran = probed::locate(numbers(pixels), height, width, factor);
+        let narrowed = ran.seen.narrowed as u32;
+        let end = End { answer: answer_of(&ran), returns: ran.whole, narrowed };
+        let least = ran.record.height.min(ran.record.width);
+        let not_narrowed = narrowed == 0 && ran.seen.scores.is_some();
+        let panics = end.answer.is_none();
+        let as_said = if not_narrowed {
+            let by_own = probed::locate(numbers(pixels), height, width, OWN_FACTOR);
+            left(&ran) == left(&by_own)
+        } else if panics {
+            factor == 0 || least < 4
+        } else if factor == 1 {
+            let fresh = ImageBoard::new(numbers(pixels), height, width);
+            (end.answer, narrowed, least) == (Some(5), 1, height.min(width))
+                && bits(ran.planes.iter().copied()) == bits(planes(&fresh))
+        } else {
+            // the factor is below 100, and a side is divided by it as often as it was narrowed
+            let by = factor.pow(narrowed);
+            let sides = (ran.record.height, ran.record.width);
+            factor >= 6 && least >= 4 && sides == (height / by, width / by)
+        };
+        if !as_said {
+            return Err(format!("the Rust does not do as docs/DIFFERENCES.md says: {end:?}"));
+        }
+        let part = match (not_narrowed, panics) {
+            (true, _) => NOT_NARROWED,
+            (_, true) => PANICS,
+            _ => NARROWS,
+        };
+        let (row, part) = match (factor, panics) {
+            (0, _) => (FACTOR_0, part),
+            (1, _) => (FACTOR_1, part),
+            (4, true) => (SIDE_BY_FACTOR, BY_4_PANICS),
+            (4, false) => (SIDE_BY_FACTOR, BY_4_NOT_NARROWED),
+            (5, true) => (SIDE_BY_FACTOR, BY_5_PANICS),
+            (5, false) => (SIDE_BY_FACTOR, BY_5_NOT_NARROWED),
+            _ => (FACTOR_6, part),
+        };
+        self.met.count_part(row, part);
+        self.end = Some(end);
+        Ok(())
+    }
+
+    /// By any factor.
     fn any(&mut self, height: usize, width: usize) -> Result<(), String> {
+        let factor = self.factor();
+        self.any_by(factor, height, width)
+    }
+
+    /// Noise, a drawn board with or without noise, one colour, or texture.
+    fn any_by(&mut self, factor: usize, height: usize, width: usize) -> Result<(), String> {
         let rng = &mut self.rng;
         let pixels = match rng.below(16) {
             0 | 1 => screens::noise(rng, height, width),
             2 => screens::blank(height, width, rng.word() as u8),
-            3 => screens::textured(rng, height.max(30), width.max(30), 1),
+            3 => screens::textured(rng, height.max(30), width.max(30), factor, 1),
             kind => {
                 let most = (height.min(width) / 2).clamp(8, 40);
                 let mut pixels = Drawn::filling(rng, height, width, 6, most).screen(height, width);
@@ -263,9 +430,32 @@ impl Cases {
             }
         };
         if pixels.len() != 4 * height * width {
-            return self.screen(height.max(30), width.max(30), &pixels);
+            return self.screen(factor, height.max(30), width.max(30), &pixels);
         }
-        self.screen(height, width, &pixels)
+        self.screen(factor, height, width, &pixels)
+    }
+
+    /// Draws screens until `count` of them are read after as many narrowings.
+    fn read(&mut self, factor: usize, narrowings: u32, count: u64) -> Result<(), String> {
+        let least = READABLE * factor.pow(narrowings);
+        let mut found = 0;
+        for _ in 0..40 * count {
+            if found == count {
+                break;
+            }
+            let side = |rng: &mut Rng| rng.between(least, least + 40 * factor);
+            let (height, width) = (side(&mut self.rng), side(&mut self.rng));
+            let pixels = screens::textured(&mut self.rng, height, width, factor, narrowings);
+            self.screen(factor, height, width, &pixels)?;
+            let wanted = End { answer: Some(0), returns: true, narrowed: narrowings };
+            found += (self.end == Some(wanted)) as u64;
+        }
+        if found < count {
+            return Err(format!(
+                "{found} of {count} read after {narrowings} narrowings by {factor}"
+            ));
+        }
+        Ok(())
     }
 
     /// Cells of 200 to 220 pixels in one direction and small ones in the other. A third of the way
@@ -283,11 +473,43 @@ impl Cases {
         board.rows = (height - board.top - 1) / board.down;
         board.columns = (width - board.left - 1) / board.across;
         let pixels = board.screen(height, width);
-        self.screen(height, width, &pixels)
+        let factor = self.factor();
+        self.screen(factor, height, width, &pixels)
     }
 
-    fn screen(&mut self, height: usize, width: usize, pixels: &[u8]) -> Result<(), String> {
-        let mut call = Call::fitting(height, width);
+    /// A call with these faults.
+    fn faulty(&mut self, factor: usize, height: usize, width: usize, faults: usize) -> Call {
+        let rng = &mut self.rng;
+        let mut call = Call::fitting(factor, height, width);
+        if faults & BAD_FACTOR != 0 {
+            call.factor = rng.pick(&[0, 1, 6, 7, 1 << 32, 1 << 62, usize::MAX]);
+        }
+        if faults & BAD_SIDE != 0 {
+            let below = least_side(factor) - 1;
+            let side = rng.pick(&[0, 4, 11, below, MOST + 1, 1 << 32, usize::MAX]);
+            call.set_sides(rng.below(3), side);
+        }
+        if faults & SHORT != 0 {
+            for _ in 0..rng.between(1, 2) {
+                let which = rng.below(6);
+                let by = rng.pick(&[1, 2, 30, 5000]);
+                call.lengths[which] = call.lengths[which].saturating_sub(by);
+            }
+        }
+        if faults & BAD_VALUE != 0 {
+            call.bad = Some((rng.below(3 * height * width), rng.pick(UNFIT)));
+        }
+        call
+    }
+
+    fn screen(
+        &mut self,
+        factor: usize,
+        height: usize,
+        width: usize,
+        pixels: &[u8],
+    ) -> Result<(), String> {
+        let mut call = Call::fitting(factor, height, width);
         let rng = &mut self.rng;
         if rng.below(2) == 0 {
             // anything in the other fields, and longer slices
@@ -312,6 +534,7 @@ impl Cases {
 
     fn one(&mut self, pixels: &[u8], call: &Call) -> Result<(), String> {
         self.count += 1;
+        self.end = None;
         self.difference(pixels, call)
             .map_or(Ok(()), |found| Err(format!("case {}, {call:?}: {found}", self.count)))
     }
@@ -331,6 +554,7 @@ impl Cases {
         let mut scratch_u32: Lent<u32> = Lent::new(call.lengths[5]);
         let have = port::locate(
             Board::of(&call.given),
+            call.factor,
             lent_planes.slice(),
             Slices {
                 edges: edges.slice(),
@@ -348,6 +572,11 @@ impl Cases {
         };
         if let Some(answer) = call.rule() {
             self.answers[answer as usize] += 1;
+            if call.runs_beside() {
+                if let Err(found) = self.beside(pixels, call) {
+                    return Some(found);
+                }
+            }
             values.truncate(call.lengths[0]);
             let want = refused(&call.given, answer);
             return unlike(&want, &have)
@@ -360,8 +589,7 @@ impl Cases {
             Ok(want) => want,
             Err(found) => return Some(found),
         };
-        let Located { answer, narrowed, .. } = want.located;
-        self.ended(End { answer, returns: want.returns, narrowed }, want.rows_read);
+        self.ended(call, &want);
         let zeros = std::iter::repeat(0.0).take(values.len() - want.planes.len());
         unlike(&want.located, &have)
             .or_else(|| lent_planes.differs("planes", want.planes.iter().copied().chain(zeros)))
@@ -369,6 +597,15 @@ impl Cases {
             .or_else(|| scores.differs("scores", want.scores.iter().map(|&s| s as u32)))
             .or_else(|| scratch_kept(height * width, 4 * (height + width)))
     }
+}
+
+fn bits(list: impl Iterator<Item = f32>) -> Vec<u32> {
+    list.map(f32::to_bits).collect()
+}
+
+/// What a run left, for comparing two.
+fn left(ran: &Ran) -> (Record, Vec<u32>, bool) {
+    (ran.record, bits(ran.planes.iter().copied()), ran.whole)
 }
 
 fn refused(given: &Record, answer: u32) -> Located {
@@ -385,7 +622,7 @@ fn unlike(want: &Located, have: &Located) -> Option<String> {
 
 /// What 01 asks for where the Rust's run is as docs/DIFFERENCES.md says.
 fn wanted(pixels: &[u8], call: &Call) -> Result<Wanted, String> {
-    let run = traced(pixels, call.height, call.width)?;
+    let run = traced(pixels, call.height, call.width, call.factor)?;
     departures(&run)?;
     let (answer, rust) = (run.answer, run.record);
     let given = Record { height: rust.height, width: rust.width, ..call.given };

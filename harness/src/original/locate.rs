@@ -1,14 +1,15 @@
-//! A run of `get_pos_pixel` with its locals: the unchanged file gives what it leaves, the probed copy
-//! the locals.
+//! A run of `get_pos_pixel` with its locals, each narrowing by one factor: the probed copy gives what
+//! it leaves and the locals. With the factor of the unchanged file this is run beside it.
 
 use super::load::{numbers, planes, record};
-use super::probe::Seen;
-use super::{probed, ImageBoard};
+use super::probe::{Seen, OWN_FACTOR};
+use super::probed::{self, Ran};
+use super::ImageBoard;
 use crate::quiet::caught;
 use crate::record::Record;
 
 pub struct Traced {
-    /// 01's number for how it ended: panics are 6 and 8, pitches 0.0 are 7 and 9, a quiet return is 5.
+    /// 01's number for how it ended.
     pub answer: u32,
     /// Whether it returned.
     pub whole: bool,
@@ -18,27 +19,41 @@ pub struct Traced {
     pub seen: Seen,
 }
 
-/// Runs both, which must do the same; an error says how they do not.
-pub fn traced(pixels: &[u8], height: usize, width: usize) -> Result<Traced, String> {
+/// Runs the copy, and with its own factor the unchanged file, which must do the same; an error says how
+/// they do not, or that the Rust panics before the scores.
+pub fn traced(pixels: &[u8], height: usize, width: usize, factor: usize) -> Result<Traced, String> {
+    let ran = probed::locate(numbers(pixels), height, width, factor);
+    if factor == OWN_FACTOR {
+        as_unchanged(pixels, height, width, &ran)?;
+    }
+    let answer = answer_of(&ran).ok_or("the Rust panics before the scores")?;
+    let Ran { seen, whole, record, planes } = ran;
+    Ok(Traced { answer, whole, record, planes, seen })
+}
+
+/// 01's number for how a run ended: panics are 6 and 8, pitches 0.0 are 7 and 9, a quiet return is 5. A
+/// panic before the scores has none.
+pub fn answer_of(ran: &Ran) -> Option<u32> {
+    match (&ran.seen.scores, ran.seen.columns) {
+        (None, _) => ran.whole.then_some(5),
+        (Some(_), None) => Some(6),
+        (Some(_), Some(0.0)) => Some(7),
+        (Some(_), Some(_)) if !ran.whole => Some(8),
+        _ if f32::from_bits(ran.record.pixelr) == 0.0 => Some(9),
+        _ => Some(0),
+    }
+}
+
+/// The unchanged file leaves what the copy left.
+fn as_unchanged(pixels: &[u8], height: usize, width: usize, ran: &Ran) -> Result<(), String> {
     let mut board = ImageBoard::new(numbers(pixels), height, width);
     let whole = caught(|| board.get_pos_pixel()).is_some();
-    let (seen, probed_record, probed_planes) = probed::locate(numbers(pixels), height, width);
-    let record = record(&board);
-    let planes: Vec<f32> = planes(&board).collect();
-    let bits = |list: &[f32]| list.iter().map(|x| x.to_bits()).collect::<Vec<_>>();
-    if whole.then_some(record) != probed_record || bits(&planes) != bits(&probed_planes) {
-        return Err(format!("the probed copy differs: {record:?}, {probed_record:?}"));
+    let own = record(&board);
+    let same = planes(&board).map(f32::to_bits).eq(ran.planes.iter().map(|x| x.to_bits()));
+    if (whole, own) != (ran.whole, ran.record) || !same {
+        return Err(format!("the probed copy differs: {own:?}, {:?}", ran.record));
     }
-    let answer = match (&seen.scores, seen.columns) {
-        (None, _) if !whole => return Err("the Rust panics before the scores".into()),
-        (None, _) => 5,
-        (Some(_), None) => 6,
-        (Some(_), Some(0.0)) => 7,
-        (Some(_), Some(_)) if !whole => 8,
-        _ if f32::from_bits(record.pixelr) == 0.0 => 9,
-        _ => 0,
-    };
-    Ok(Traced { answer, whole, record, planes, seen })
+    Ok(())
 }
 
 impl Traced {

@@ -1,7 +1,11 @@
-//! What the added lines of the probed copy store, and what can stand in for its values.
+//! What the added lines of the probed copy store, the factor that it narrows by, and what can stand in
+//! for its values.
 
 use super::steps::Points;
-use std::cell::RefCell;
+use std::cell::{Cell, RefCell};
+
+/// The factor of the unchanged file.
+pub const OWN_FACTOR: usize = 3;
 
 /// Locals of one run of the probed copy, as far as it came.
 #[derive(Clone, Debug, Default)]
@@ -29,16 +33,22 @@ pub struct StandIn {
 thread_local! {
     static SEEN: RefCell<Seen> = RefCell::default();
     static STAND_IN: RefCell<Option<StandIn>> = const { RefCell::new(None) };
+    static FACTOR: Cell<usize> = const { Cell::new(OWN_FACTOR) };
 }
 
-/// Forgets what was seen, and sets or removes the stand-in.
-pub fn start(stand_in: Option<StandIn>) {
+/// Forgets what was seen, and sets the factor, and sets or removes the stand-in.
+pub fn start(factor: usize, stand_in: Option<StandIn>) {
+    FACTOR.set(factor);
     SEEN.with_borrow_mut(|seen| *seen = Seen::default());
     STAND_IN.with_borrow_mut(|place| *place = stand_in);
 }
 
 pub fn take() -> Seen {
     SEEN.with_borrow_mut(std::mem::take)
+}
+
+pub fn factor() -> usize {
+    FACTOR.get()
 }
 
 pub fn first(edges: &Points) {

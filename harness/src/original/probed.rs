@@ -1,27 +1,30 @@
-//! The Rust original with lines added (build.rs), and runs of it.
+//! The Rust original with lines added and one changed (build.rs), and runs of it.
 
 include!(env!("FOLGUTAN_OBR_PROBED"));
 
-use super::probe::{self, Seen, StandIn};
+use super::probe::{self, Seen, StandIn, OWN_FACTOR};
 use super::steps::Points;
 use crate::quiet::caught;
 use crate::record::Record;
 
-/// Locates: what was seen, and the record and the planes afterwards. `None` for the record is a
-/// panic.
-pub fn locate(
-    numbers: Vec<usize>,
-    height: usize,
-    width: usize,
-) -> (Seen, Option<Record>, Vec<f32>) {
+/// What a run of locating leaves.
+pub struct Ran {
+    pub seen: Seen,
+    /// Whether it returned.
+    pub whole: bool,
+    /// The fields and the planes afterwards, after a panic too.
+    pub record: Record,
+    pub planes: Vec<f32>,
+}
+
+/// Locates, each narrowing by the factor.
+pub fn locate(numbers: Vec<usize>, height: usize, width: usize, factor: usize) -> Ran {
     let mut board = ImageBoard::new(numbers, height, width);
-    probe::start(None);
+    probe::start(factor, None);
     let whole = caught(|| board.get_pos_pixel()).is_some();
-    (
-        probe::take(),
-        whole.then(|| record(&board)),
-        board.data.into_iter().flatten().flatten().collect(),
-    )
+    let record = record(&board);
+    let planes = board.data.into_iter().flatten().flatten().collect();
+    Ran { seen: probe::take(), whole, record, planes }
 }
 
 /// The widened bounds and both score lists for an edge picture, its sides (or those of a narrowed
@@ -31,11 +34,8 @@ pub fn widen(edges: &Points, sides: [usize; 2], bounds: [usize; 4]) -> Seen {
     let [r_1, r_2, c_1, c_2] = bounds;
     let thirds = [row / 3, row * 2 / 3, column / 3, column * 2 / 3];
     let [a, b, c, d] = thirds;
-    probe::start(Some(StandIn {
-        edges: edges.clone(),
-        sides,
-        bounds: [r_1, r_2, c_1, c_2, a, b, c, d],
-    }));
+    let bounds = [r_1, r_2, c_1, c_2, a, b, c, d];
+    probe::start(OWN_FACTOR, Some(StandIn { edges: edges.clone(), sides, bounds }));
     // a screen whose points are all set, so that nothing is narrowed
     let plane: Vec<Vec<f32>> =
         vec![(0..12).map(|j| if j / 2 % 2 == 0 { 0.0 } else { 1.0 }).collect(); 12];
@@ -43,14 +43,14 @@ pub fn widen(edges: &Points, sides: [usize; 2], bounds: [usize; 4]) -> Seen {
     board.data = [plane.clone(), plane.clone(), plane];
     caught(|| board.get_pos_pixel());
     let seen = probe::take();
-    probe::start(None);
+    probe::start(OWN_FACTOR, None);
     assert_eq!(seen.narrowed, 0);
     seen
 }
 
 /// A line reading with its votes, or a panic.
 pub fn line(board: &ImageBoard, list: Vec<usize>) -> Option<((f32, usize, usize), usize)> {
-    probe::start(None);
+    probe::start(OWN_FACTOR, None);
     let read = caught(|| board.get_line(list))?;
     Some((read, probe::take().votes[0]))
 }

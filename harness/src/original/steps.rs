@@ -36,8 +36,8 @@ pub fn edges(gradient: &Vec<Vec<f32>>) -> Points {
     nothing().binarize_gradient(gradient)
 }
 
-pub fn narrow(board: &mut ImageBoard) {
-    board.narrow(3);
+pub fn narrow(board: &mut ImageBoard, factor: usize) {
+    board.narrow(factor);
 }
 
 pub fn sides(board: &ImageBoard) -> (usize, usize) {

@@ -1,12 +1,13 @@
 -- `locate::get_pos_pixel` meets its contract, the promise with it: a refusal by the checks, or the work on scratch of 01's lengths.
+use Prim.Native.Nat.{ℕ}
 use mathlib.Core.Path.{_≡_, refl, sym, _∙_}
 use native.Mathlib.Omega.{arith}
 use denote.Ref.{now}
 use lib.ListN.{length-take}
 use lib.Seq.{drop-at, length-take-le}
 use Rattle.board.specs.declared.Board.{Board}
-use Rattle.board.specs.Board.{leastSide}
-use Rattle.board.specs.Inner.{FitPlanes}
+use Rattle.board.specs.Board.{leastLocated}
+use Rattle.board.specs.Inner.{FactorIn, FitPlanes}
 use Rattle.locate.specs.Locate.{Lent, lent, checked}
 use Rattle.locate.specs.Inner.{NoneShort}
 use Rattle.locate.proofs.Checks.{fit}
@@ -16,23 +17,32 @@ use Rattle.locate.proofs.get_pos_pixel.Statement.{statement}
 use Rattle.locate.proofs.get_pos_pixel.Tie as tie
 
 -- after the checks: what was handed in
+abbrev at-start : tie.After-check → tie.Start
+at-start c = c .before .before .before .before .before .before .before .before .before .before .before .before .before
+
 abbrev board : tie.After-check → Board
-board c = c .before .before .before .before .before .before .before .before .before .before .before .before .before .args .b
+board c = at-start c .args .b
+
+abbrev factor : tie.After-check → ℕ
+factor c = at-start c .args .factor
 
 abbrev slices : tie.After-check → Lent
 slices c =
-    let a = c .before .before .before .before .before .before .before .before .before .before .before .before .before .args in
+    let a = at-start c .args in
     lent (now (a .planes)) (now (a .edges)) (now (a .scores)) (now (a .scratch-f32)) (now (a .scratch-u8)) (now (a .scratch-u32))
 
 -- the checks passed
-passed : (c : tie.Else1) → checked (board (c .before)) (slices (c .before)) ≡ 0
+passed : (c : tie.Else1) → checked (board (c .before)) (factor (c .before)) (slices (c .before)) ≡ 0
 passed c = sym (c .before .check .ensures) ∙ c .if1 .left
 
-fits : (c : tie.Else1) → FitPlanes leastSide (board (c .before) .height) (board (c .before) .width) (slices (c .before) .planes)
-fits c = fit (board (c .before)) (slices (c .before)) (passed c) .0
+factor-in : (c : tie.Else1) → FactorIn (factor (c .before))
+factor-in c = fit (board (c .before)) (factor (c .before)) (slices (c .before)) (passed c) .0
+
+fits : (c : tie.Else1) → let at = c .before in FitPlanes (leastLocated (factor at)) (board at .height) (board at .width) (slices at .planes)
+fits c = fit (board (c .before)) (factor (c .before)) (slices (c .before)) (passed c) .1
 
 room : (c : tie.Else1) → NoneShort (board (c .before) .height) (board (c .before) .width) (slices (c .before))
-room c = fit (board (c .before)) (slices (c .before)) (passed c) .1
+room c = fit (board (c .before)) (factor (c .before)) (slices (c .before)) (passed c) .2
 
 check-requires : tie.Need-check-requires
 check-requires c κs = search needs
@@ -61,7 +71,7 @@ same-length-6 c = search needs
 returns : tie.Need-returns
 returns c =
     let at = c .before .before in
-    refuses (board at) (slices at) _ (at .check .ensures) (c .before .if1 .taken) (c .declined .ensures)
+    refuses (board at) (factor at) (slices at) _ (at .check .ensures) (c .before .if1 .taken) (c .declined .ensures)
 
 mul-n : tie.Need-mul-n
 mul-n c = omega (arith, fits (c .before) .sides .area)
@@ -100,7 +110,7 @@ work-requires : tie.Need-work-requires
 work-requires c κs =
     let at = c .before .before .before .before .before .before .before .before in
     let r = room at in (
-      fits at,
+      (factor-in at, fits at),
       record {
         edges-in = r .edges-in;
         scores-in = r .scores-in;
@@ -135,11 +145,12 @@ returns-2 c =
     let r = room at in
     let after = done .work .last in
     let same = done .work .kept in
-    accepts (board (at .before)) (slices (at .before)) _ _ _ (passed at) (done .work .ensures) refl refl refl refl refl refl
+    accepts (board (at .before)) (factor (at .before)) (slices (at .before)) _ _ _ (passed at) (done .work .ensures)
+    refl refl refl refl refl refl
     (record {
-      f32-kept = drop-at (after .1 .1 .1 .1 .0) _ _ (same .1 .1 .1 .1 .0 ∙ length-take-le _ _ (r .f32-in));
-      u8-kept = drop-at (after .1 .1 .1 .1 .1 .0) _ _ (same .1 .1 .1 .1 .1 .0 ∙ length-take-le _ _ (r .u8-in));
-      u32-kept = drop-at (after .1 .1 .1 .1 .1 .1 .0) _ _ (same .1 .1 .1 .1 .1 .1 .0 ∙ length-take-le _ _ (r .u32-in));
+      f32-kept = drop-at (after .1 .1 .1 .1 .1 .0) _ _ (same .1 .1 .1 .1 .1 .0 ∙ length-take-le _ _ (r .f32-in));
+      u8-kept = drop-at (after .1 .1 .1 .1 .1 .1 .0) _ _ (same .1 .1 .1 .1 .1 .1 .0 ∙ length-take-le _ _ (r .u8-in));
+      u32-kept = drop-at (after .1 .1 .1 .1 .1 .1 .1 .0) _ _ (same .1 .1 .1 .1 .1 .1 .1 .0 ∙ length-take-le _ _ (r .u32-in));
     })
 
 pub get-pos-pixel-spec : {M : Type 1} → statement M

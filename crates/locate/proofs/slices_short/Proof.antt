@@ -3,7 +3,6 @@ use mathlib.Core.Path.{sym, _∙_}
 use mathlib.Core.Bool.{true≢false}
 use native.Mathlib.Omega.{arith}
 use borrow.Author.Tests.{lt-ltb, le-ltb}
-use Rattle.board.specs.Board.{leastSide}
 use Rattle.board.specs.Inner.{SidesIn}
 use Rattle.board.proofs.Sides.{sides-in}
 use Rattle.locate.specs.Locate.{slicesShort}
@@ -19,8 +18,8 @@ returns c = λ e. absurd (true≢false (sym (c .if1 .taken) ∙ (c .before .side
 
 -- the sides are within the limits
 sides : (c : tie.Else1) → let a = c .before .before .before .before .before .before .before .args in
-    SidesIn leastSide (a .height) (a .width)
-sides c = sides-in leastSide _ _ (sym (c .before .sides-outside .ensures) ∙ c .if1 .left)
+    SidesIn (a .least) (a .height) (a .width)
+sides c = sides-in _ _ _ (sym (c .before .sides-outside .ensures) ∙ c .if1 .left)
 
 mul-n : tie.Need-mul-n
 mul-n c = omega (arith, sides c .area)

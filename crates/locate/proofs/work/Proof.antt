@@ -1,11 +1,12 @@
 -- `locate::work` meets its contract: the first look, the loop of narrowings, and the two ways out of it.
+use Prim.Native.Nat.{ℕ}
 use mathlib.Core.Path.{_≡_}
 use native.Mathlib.Omega.{arith}
 use denote.Ref.{now}
 use lib.ListN.{length}
 use Rattle.board.specs.declared.Board.{Board}
-use Rattle.board.specs.Board.{leastSide, leastPlaneSide}
-use Rattle.board.specs.Inner.{FitPlanes}
+use Rattle.board.specs.Board.{leastLocated, leastPlaneSide}
+use Rattle.board.specs.Inner.{FactorIn, FitPlanes}
 use Rattle.board.proofs.Planes.{fit-lower}
 use Rattle.narrowings.specs.Loop.{first, lastOf}
 use Rattle.narrowings.specs.Inner.{Looks, Narrows}
@@ -36,13 +37,19 @@ begun c = at-start (at-look c)
 abbrev board : tie.After-narrow-on → Board
 board c = begun c .args .b
 
+abbrev factor : tie.After-narrow-on → ℕ
+factor c = begun c .args .factor
+
 abbrev slices : tie.After-narrow-on → Lent
 slices c =
     let a = begun c .args in
     lent (now (a .planes)) (now (a .edges)) (now (a .scores)) (now (a .scratch-f32)) (now (a .scratch-u8)) (now (a .scratch-u32))
 
-fits : (c : tie.After-narrow-on) → FitPlanes leastSide (board c .height) (board c .width) (slices c .planes)
-fits c = begun c .pre .0
+factor-in : (c : tie.After-narrow-on) → FactorIn (factor c)
+factor-in c = begun c .pre .0 .0
+
+fits : (c : tie.After-narrow-on) → FitPlanes (leastLocated (factor c)) (board c .height) (board c .width) (slices c .planes)
+fits c = begun c .pre .0 .1
 
 room : (c : tie.After-narrow-on) → NoneShort (board c .height) (board c .width) (slices c)
 room c = begun c .pre .1
@@ -53,19 +60,20 @@ looks : (c : tie.After-narrow-on)
 looks c = at-look c .look .ensures
 
 narrows : (c : tie.After-narrow-on)
-    → Narrows (lastOf 3 (board c .height) (board c .width) (slices c .planes)) (c .narrow-on .result) (c .narrow-on .last .1 .1 .1 .0)
+    → Narrows (lastOf (factor c) (board c .height) (board c .width) (slices c .planes)) (c .narrow-on .result)
+    (c .narrow-on .last .1 .1 .1 .1 .0)
 narrows c = c .narrow-on .ensures
 
 look-requires : tie.Need-look-requires
 look-requires c κs =
     let ask = c .before .before .before .before .before .before .before .before .before .pre in
-    (fit-lower leastPlaneSide (omega arith) (ask .0), (ask .1 .f32-in, ask .1 .edges-in))
+    (fit-lower leastPlaneSide (omega arith) (ask .0 .1), (ask .1 .f32-in, ask .1 .edges-in))
 
 narrow-on-requires : tie.Need-narrow-on-requires
 narrow-on-requires c κs =
     let at = c .before .before .before .before .before .before .before in
     let ask = at-start at .pre in
-    ((ask .0, at .look .ensures .bounds-are), (omega (arith, ask .1 .f32-in), ask .1 .u8-in))
+    ((ask .0 .0, ask .0 .1, at .look .ensures .bounds-are), (omega (arith, ask .1 .f32-in), ask .1 .u8-in))
 
 resized-requires : tie.Need-resized-requires
 resized-requires c κs = search needs
@@ -90,14 +98,17 @@ same-length-4 c = search needs
 returns : tie.Need-returns
 returns c =
     let at = c .before .before .before .before .before .before .before .before .before in
-    works-small (board at) (slices at) (fits at) (room at) (looks at) (narrows at) _ _ _ (c .before .before .if1 .taken)
+    works-small (board at) (factor at) (slices at) (factor-in at) (fits at) (room at) (looks at) (narrows at) _ _ _
+    (c .before .before .if1 .taken)
     (rw (c .before .resized .ensures) at (c .declined .ensures))
 
 read-from-requires : tie.Need-read-from-requires
 read-from-requires c κs =
     let at = at-loop (c .before .before .before .before) in
-    let same : length (at .narrow-on .last .1 .1 .1 .1 .1 .0) ≡ length (slices at .scratch-u8) = omega (arith, at .narrow-on .kept) in
-    rw same (leads (board at) (slices at) (fits at) (room at) (looks at) (narrows at) (c .before .before .before .before .if1 .left))
+    let same : length (at .narrow-on .last .1 .1 .1 .1 .1 .1 .0) ≡ length (slices at .scratch-u8) = omega (arith, at .narrow-on .kept) in
+    rw same
+    (leads (board at) (factor at) (slices at) (factor-in at) (fits at) (room at) (looks at) (narrows at)
+    (c .before .before .before .before .if1 .left))
 
 same-length-5 : tie.Need-same-length-5
 same-length-5 c = search needs
@@ -123,7 +134,8 @@ returns-2 : tie.Need-returns-2
 returns-2 c =
     let read = c .before .before .before .before .before .before in
     let at = at-loop (at-read read) in
-    works-read (board at) (slices at) (fits at) (room at) (looks at) (narrows at) (at-read read .if1 .left) _ _ _ (read .read-from .ensures)
+    works-read (board at) (factor at) (slices at) (factor-in at) (fits at) (room at) (looks at) (narrows at)
+    (at-read read .if1 .left) _ _ _ (read .read-from .ensures)
 
 pub work-spec : {M : Type 1} → statement M
 work-spec =

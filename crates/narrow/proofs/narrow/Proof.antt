@@ -25,15 +25,21 @@ abbrev begun : tie.After-narrow-planes → tie.Start
 begun c = at-start (c .before .before .before)
 
 abbrev small : tie.Start → Screen
-small s = narrowed 3 (view (s .args .height) (s .args .width) (now (s .args .planes)))
+small s = narrowed (s .args .f) (view (s .args .height) (s .args .width) (now (s .args .planes)))
 
 -- the narrowed planes fit
-room : (s : tie.Start) → 3 * (s .args .height / 3 * (s .args .width / 3)) ≤ s .args .height * s .args .width
-room s = shrinks (s .args .height) (s .args .width)
+room : (s : tie.Start) → let a = s .args in 3 * (a .height / a .f * (a .width / a .f)) ≤ a .height * a .width
+room s = shrinks (s .args .f) (s .args .height) (s .args .width) (s .pre .1 .low)
 
 room-now : (c : tie.After-slice-known4) → let a = begun (at-laid (at-copied c .before)) .args in
-    3 * (a .height / 3 * (a .width / 3)) ≤ a .height * a .width
+    3 * (a .height / a .f * (a .width / a .f)) ≤ a .height * a .width
 room-now c = room (begun (at-laid (at-copied c .before)))
+
+div-n : tie.Need-div-n
+div-n c = search needs
+
+div-n-2 : tie.Need-div-n-2
+div-n-2 c = search needs
 
 mul-n : tie.Need-mul-n
 mul-n c = omega (arith, room (at-start c))
@@ -83,7 +89,7 @@ returns c =
     let copied = at-copied (cleared .before .before) in
     let laid = at-laid (copied .before) in
     let a = begun laid .args in
-    let n = 3 * (a .height / 3 * (a .width / 3)) in
+    let n = 3 * (a .height / a .f * (a .width / a .f)) in
     let long = length-packed (small (begun laid)) in
     let front = rw (front-part n long (laid .narrow-planes .ensures)) at (copied .copy-f32 .ensures) in (
       front-behind n long front (cleared .clear-f32 .ensures) .is,
@@ -94,6 +100,8 @@ pub narrow-spec : {M : Type 1} → statement M
 narrow-spec =
     tie.close
     (tie.spec
+    div-n
+    div-n-2
     mul-n
     mul-n-2
     mul-rest

@@ -1,0 +1,3 @@
+pub mod Counts
+pub mod Passes
+pub mod Sifting
