@@ -149,8 +149,8 @@ typedef struct {
  *   divided by it, and rows and columns left over fall away. A point of the
  *   narrowed planes is entry factor * factor / 2, rounded down and counted
  *   from 0, of its factor by factor block sorted rising: the third of 4
- *   values, the fifth of 9, the ninth of 16, the thirteenth of 25. Pass 3 for the reading that the call
- *   gave before it took a factor. A screen that needs no narrowing reads the
+ *   values, the fifth of 9, the ninth of 16, the thirteenth of 25. 3 is what
+ *   the Rust original narrows by. A screen that needs no narrowing reads the
  *   same with every factor that its sides allow.
  * planes: 3 * h * w values, as loading leaves them.
  * edges: at least h * w bytes.

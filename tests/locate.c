@@ -145,7 +145,9 @@ static void refused(const char *name, const float *values, size_t height, size_t
 /* The screen that the refused calls are handed: of sides that every factor takes. */
 enum { HEIGHT = 22, WIDTH = 21, AREA = HEIGHT * WIDTH };
 
-static const size_t bad_factors[] = {0, 1, 6, 7, (size_t)1 << 32, (size_t)1 << 62, SIZE_MAX};
+/* Some are 3 in their low bits; four times 2^62 is 0. */
+static const size_t bad_factors[] = {0, 1, 6, 7, 256 + 3, 65536 + 3, ((size_t)1 << 32) + 3,
+                                     (size_t)1 << 62, SIZE_MAX};
 static const size_t bad_sides[] = {0, 1, 4, 11, 4097, (size_t)1 << 32, (size_t)1 << 63, SIZE_MAX};
 static const uint32_t unfit[] = {0x3F800001, 0x80000000, 0xBF800000, 0x7F800000, 0xFF800000,
                                  0x7FC00000, 0xFFC00000};
@@ -172,17 +174,30 @@ static size_t *length_of(call *c, size_t slice)
 
 enum { SLICES = 6 };
 
+/* A fault that answers whether slices are lent or not. */
+static void without_slices(const char *name, const float *values, call c, uint32_t answer)
+{
+    refused(name, values, HEIGHT, WIDTH, c, answer);
+    c.planes = c.edges = c.scores = c.scratch_f32 = c.scratch_u8 = c.scratch_u32 = 0;
+    refused(name, values, HEIGHT, WIDTH, c, answer);
+}
+
+static void bad_side(const float *values, size_t factor, size_t side)
+{
+    for (size_t turn = 0; turn < 3; turn++) {
+        call c = fitting(factor, HEIGHT, WIDTH);
+        set_sides(&c, turn, side);
+        without_slices("bad side", values, c, FOLGUTAN_BAD_SIDE);
+    }
+}
+
 /* One fault, of every kind, with a factor that is fit. */
 static void single_faults(const float *values, size_t factor)
 {
-    for (size_t at = 0; at <= COUNT(bad_sides); at++)
-        for (size_t turn = 0; turn < 3; turn++) {
-            call c = fitting(factor, HEIGHT, WIDTH);
-            set_sides(&c, turn, at < COUNT(bad_sides) ? bad_sides[at] : least_side[factor] - 1);
-            refused("bad side", values, HEIGHT, WIDTH, c, FOLGUTAN_BAD_SIDE);
-            c.planes = c.edges = c.scores = c.scratch_f32 = c.scratch_u8 = c.scratch_u32 = 0;
-            refused("bad side, no slices", values, HEIGHT, WIDTH, c, FOLGUTAN_BAD_SIDE);
-        }
+    for (size_t at = 0; at < COUNT(bad_sides); at++)
+        bad_side(values, factor, bad_sides[at]);
+    for (size_t side = FOLGUTAN_LEAST_SIDE; side < least_side[factor]; side++)
+        bad_side(values, factor, side);
     for (size_t slice = 0; slice < SLICES; slice++) {
         call c = fitting(factor, HEIGHT, WIDTH);
         *length_of(&c, slice) -= 1;
@@ -242,12 +257,35 @@ static void refusals(void)
     for (size_t at = 0; at < COUNT(values); at++)
         values[at] = (float)(at * 7919 % 256) / 255.0f;
     for (size_t at = 0; at < COUNT(bad_factors); at++)
-        refused("bad factor", values, HEIGHT, WIDTH, fitting(bad_factors[at], HEIGHT, WIDTH),
-                FOLGUTAN_BAD_FACTOR);
+        without_slices("bad factor", values, fitting(bad_factors[at], HEIGHT, WIDTH),
+                       FOLGUTAN_BAD_FACTOR);
     for (size_t factor = LEAST; factor <= MOST; factor++) {
         single_faults(values, factor);
         sets_of_faults(values, factor);
     }
+}
+
+/* The smallest screen that is loaded is located by 2 and 3, and too small for 4 and 5. */
+static void smallest_loaded(size_t factor)
+{
+    enum { SIDE = FOLGUTAN_LEAST_SIDE };
+    static const uint8_t pixels[4 * SIDE * SIDE];
+    static float planes[3 * SIDE * SIDE];
+    const char *where = "locate of the smallest loaded screen";
+    folgutan_loaded loaded =
+        folgutan_load(SIDE, SIDE, pixels, COUNT(pixels), planes, COUNT(planes));
+    call c = fitting(factor, SIDE, SIDE);
+    c.board = loaded.board;
+    check(loaded.answer == FOLGUTAN_DONE, where, "loads");
+    if (SIDE < 4 * factor) {
+        refused("loaded", planes, SIDE, SIDE, c, FOLGUTAN_BAD_SIDE);
+        return;
+    }
+    left l = locate(planes, SIDE, SIDE, c);
+    check(l.located.answer == FOLGUTAN_TOO_SMALL && l.located.narrowed == 1, where, "one narrowing");
+    check(l.located.board.height == SIDE / factor && l.located.board.width == SIDE / factor, where,
+          "sides");
+    drop(l);
 }
 
 /* Screens of one colour: how often they are narrowed before they are too small, and the sides that
@@ -703,6 +741,7 @@ void test_locate(void)
     for (size_t at = 0; at < COUNT(blanks); at++)
         too_small(blanks[at]);
     for (size_t factor = LEAST; factor <= MOST; factor++) {
+        smallest_loaded(factor);
         for (size_t over = 0; over < factor * factor; over++)
             narrowed_blocks(factor, over / factor, over % factor);
         /* what needs no narrowing is the same for each factor */

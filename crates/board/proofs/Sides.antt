@@ -6,7 +6,7 @@ use native.Mathlib.Nat.{mul-le-mul, mul-le-mul-right}
 use native.Mathlib.Omega.{arith}
 use borrow.Author.Tests.{leb-true, ltb-false, le-ltb}
 use lib.Dec.{leb, ltb}
-use Rattle.board.specs.Board.{leastPlaneSide, leastFactor, mostFactor, outside, sidesOutside, factorOutside, hasChannel}
+use Rattle.board.specs.Board.{leastPlaneSide, mostSide, leastFactor, mostFactor, outside, sidesOutside, factorOutside, hasChannel}
 use Rattle.board.specs.Inner.{SidesIn, FactorIn}
 
 pub and-true : (p : Bool) → (p && true) ≡ p
@@ -34,11 +34,11 @@ passed false n later e = (refl, e)
 pub sides-in : (least h w : ℕ) → sidesOutside least h w ≡ false → SidesIn least h w
 unfolding sidesOutside outside
 sides-in least h w e =
-    let s = neither (outside least 4096 h) (outside least 4096 w) e in
-    let a = neither (ltb h least) (ltb 4096 h) (s .0) in
-    let b = neither (ltb w least) (ltb 4096 w) (s .1) in
-    let high-h = ltb-false 4096 h (a .1) in
-    let high-w = ltb-false 4096 w (b .1) in
+    let s = neither (outside least mostSide h) (outside least mostSide w) e in
+    let a = neither (ltb h least) (ltb mostSide h) (s .0) in
+    let b = neither (ltb w least) (ltb mostSide w) (s .1) in
+    let high-h = ltb-false mostSide h (a .1) in
+    let high-w = ltb-false mostSide w (b .1) in
     record {
       low-h = ltb-false h least (a .0);
       high-h = high-h;
@@ -50,7 +50,7 @@ sides-in least h w e =
 pub sides-pass : {least h w : ℕ} → SidesIn least h w → sidesOutside least h w ≡ false
 unfolding sidesOutside outside
 sides-pass {least} {h} {w} s =
-    rw (le-ltb h least (s .low-h), le-ltb 4096 h (s .high-h), le-ltb w least (s .low-w), le-ltb 4096 w (s .high-w))
+    rw (le-ltb h least (s .low-h), le-ltb mostSide h (s .high-h), le-ltb w least (s .low-w), le-ltb mostSide w (s .high-w))
 
 -- a factor that passes the test is within its limits
 pub factor-in : (f : ℕ) → factorOutside f ≡ false → FactorIn f

@@ -16,7 +16,7 @@ fn number(n: u64) {
     io::print_decimal(STDOUT_FILENO, n);
 }
 
-// The bits of a pitch; of what is no number, which no pitch is, the largest u32.
+// The bits of a pitch or of a plane value; of what is no number, which neither is, the largest u32.
 fn bits(x: f32) -> u32 {
     if x != x { 4294967295 } else { f32::to_bits(x) }
 }

@@ -22,6 +22,12 @@ use crate::FACTORS;
 const LEAST: usize = 12;
 const MOST: usize = 4096;
 
+/// Factors below this are run beside the Rust also where the port refuses them.
+const BESIDE: usize = 100;
+
+/// Answers are below this.
+const ANSWERS: usize = 14;
+
 /// The least side of a narrowed screen that can still be read.
 const READABLE: usize = 67;
 
@@ -77,6 +83,11 @@ pub fn compare(run: &Run) -> Outcome {
             for _ in 0..run.choose(1, 10) {
                 cases.any_by(factor, height, width)?;
             }
+        }
+    }
+    for factor in FACTORS.end() + 1..BESIDE {
+        for _ in 0..run.choose(4, 100) {
+            cases.refused_factor(factor)?;
         }
     }
     if run.long {
@@ -185,7 +196,7 @@ impl Call {
     fn runs_beside(&self) -> bool {
         let ends = match self.factor {
             1 => self.height.min(self.width) < READABLE,
-            factor => factor < 100,
+            factor => factor < BESIDE,
         };
         let own_sides = (self.given.height, self.given.width) == (self.height, self.width);
         ends && own_sides && Call { factor: OWN_FACTOR, ..self.clone() }.rule().is_none()
@@ -250,7 +261,7 @@ struct ByFactor {
 struct Cases {
     rng: Rng,
     count: u64,
-    answers: [u64; 14],
+    answers: [u64; ANSWERS],
     /// From factor 2 on.
     by_factor: [ByFactor; 4],
     met: Met,
@@ -274,7 +285,7 @@ impl Cases {
         Ok(Cases {
             rng: Rng::new(seed),
             count: 0,
-            answers: [0; 14],
+            answers: [0; ANSWERS],
             by_factor: [ByFactor::default(); 4],
             met: Met::new("locating", ROWS)?,
             end: None,
@@ -435,6 +446,17 @@ impl Cases {
         self.screen(factor, height, width, &pixels)
     }
 
+    /// A factor that the port refuses, on a screen that needs a narrowing or on one that often does not.
+    fn refused_factor(&mut self, factor: usize) -> Result<(), String> {
+        let rng = &mut self.rng;
+        let (height, width) = (rng.between(LEAST, 80), rng.between(LEAST, 80));
+        let pixels = match rng.below(2) {
+            0 => screens::blank(height, width, rng.word() as u8),
+            _ => Drawn::filling(rng, height, width, 6, 8).screen(height, width),
+        };
+        self.screen(factor, height, width, &pixels)
+    }
+
     /// Draws screens until `count` of them are read after as many narrowings.
     fn read(&mut self, factor: usize, narrowings: u32, count: u64) -> Result<(), String> {
         let least = READABLE * factor.pow(narrowings);
@@ -482,7 +504,9 @@ impl Cases {
         let rng = &mut self.rng;
         let mut call = Call::fitting(factor, height, width);
         if faults & BAD_FACTOR != 0 {
-            call.factor = rng.pick(&[0, 1, 6, 7, 1 << 32, 1 << 62, usize::MAX]);
+            // some are 3 in their low bits; four times 2^62 is 0
+            let large = [(1 << 8) + 3, (1 << 16) + 3, (1 << 32) + 3, 1 << 62, usize::MAX];
+            call.factor = rng.pick(&[[0, 1, 6, 7, 99].as_slice(), &large].concat());
         }
         if faults & BAD_SIDE != 0 {
             let below = least_side(factor) - 1;
