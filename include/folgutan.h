@@ -149,9 +149,9 @@ typedef struct {
  *   divided by it, and rows and columns left over fall away. A point of the
  *   narrowed planes is entry factor * factor / 2, rounded down and counted
  *   from 0, of its factor by factor block sorted rising: the third of 4
- *   values, the fifth of 9, the ninth of 16, the thirteenth of 25. 3 is what
- *   the Rust original narrows by. A screen that needs no narrowing reads the
- *   same with every factor that its sides allow.
+ *   values, the fifth of 9, the ninth of 16, the thirteenth of 25. The Rust
+ *   original narrows by 3. A screen that needs no narrowing reads the same
+ *   with every factor that its sides allow.
  * planes: 3 * h * w values, as loading leaves them.
  * edges: at least h * w bytes.
  * scores: at least h + w entries.

@@ -175,11 +175,12 @@ static size_t *length_of(call *c, size_t slice)
 enum { SLICES = 6 };
 
 /* A fault that answers whether slices are lent or not. */
-static void without_slices(const char *name, const float *values, call c, uint32_t answer)
+static void with_and_without(const char *name, const char *without, const float *values, call c,
+                             uint32_t answer)
 {
     refused(name, values, HEIGHT, WIDTH, c, answer);
     c.planes = c.edges = c.scores = c.scratch_f32 = c.scratch_u8 = c.scratch_u32 = 0;
-    refused(name, values, HEIGHT, WIDTH, c, answer);
+    refused(without, values, HEIGHT, WIDTH, c, answer);
 }
 
 static void bad_side(const float *values, size_t factor, size_t side)
@@ -187,7 +188,7 @@ static void bad_side(const float *values, size_t factor, size_t side)
     for (size_t turn = 0; turn < 3; turn++) {
         call c = fitting(factor, HEIGHT, WIDTH);
         set_sides(&c, turn, side);
-        without_slices("bad side", values, c, FOLGUTAN_BAD_SIDE);
+        with_and_without("bad side", "bad side, no slices", values, c, FOLGUTAN_BAD_SIDE);
     }
 }
 
@@ -257,21 +258,22 @@ static void refusals(void)
     for (size_t at = 0; at < COUNT(values); at++)
         values[at] = (float)(at * 7919 % 256) / 255.0f;
     for (size_t at = 0; at < COUNT(bad_factors); at++)
-        without_slices("bad factor", values, fitting(bad_factors[at], HEIGHT, WIDTH),
-                       FOLGUTAN_BAD_FACTOR);
+        with_and_without("bad factor", "bad factor, no slices", values,
+                         fitting(bad_factors[at], HEIGHT, WIDTH), FOLGUTAN_BAD_FACTOR);
     for (size_t factor = LEAST; factor <= MOST; factor++) {
         single_faults(values, factor);
         sets_of_faults(values, factor);
     }
 }
 
-/* The smallest screen that is loaded is located by 2 and 3, and too small for 4 and 5. */
+/* The smallest screen that is loaded is taken with 2 and 3; with 4 and 5 its sides are refused. */
 static void smallest_loaded(size_t factor)
 {
     enum { SIDE = FOLGUTAN_LEAST_SIDE };
     static const uint8_t pixels[4 * SIDE * SIDE];
     static float planes[3 * SIDE * SIDE];
-    const char *where = "locate of the smallest loaded screen";
+    char where[80];
+    snprintf(where, sizeof where, "locate of the smallest loaded screen, factor %zu", factor);
     folgutan_loaded loaded =
         folgutan_load(SIDE, SIDE, pixels, COUNT(pixels), planes, COUNT(planes));
     call c = fitting(factor, SIDE, SIDE);

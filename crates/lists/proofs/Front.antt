@@ -6,7 +6,8 @@ use mathlib.Core.List.{List, [], _∷_, _++_, append-nil, append-assoc}
 use native.Mathlib.Nat.{add-zero, add-mul, one-mul, not-suc-le-zero, le-of-suc-le-suc}
 use native.Mathlib.Numerals.{add-one}
 use native.Mathlib.Omega.{arith}
-use lib.ListN.{length, take, drop, getD, set, length-set, length-append, length-drop, take-append-drop, List·getD-append}
+use lib.ListN.{length, take, drop, getD, set, replicate, length-set, length-append, length-drop, take-append-drop, List·getD-append}
+use lib.ListN.{length-replicate, getD-replicate, replicate-append-replicate}
 use lib.Seq.{take-at, take-append-le, length-take-le, drop-at, drop-drop, drop-length, drop-append-le}
 use lib.Seq.{set-split, getD-append-add, getD-drop, getD-take}
 use borrow.Rule.Slice.PartMut.{midOf, putMid, same-len-mid}
@@ -101,6 +102,37 @@ module _ {A : Type 0} where
       put-rest n s last ∙ rw (k .is, mid, rest, front-part n l h, drop-drop) in
       let long : n + length q ≤ length lent = omega (arith, front-fits k, k .len, ap length mid, length-drop n s, h .len, front-fits h) in
       front-by (n + length q) (simp length-append (omega (arith, l))) long (is ∙ sym (append-assoc p q _))
+
+  -- ---- one value in n places
+
+  module _ (v : A) where
+    pub same-at : (z : A) (n : ℕ) {lent out : List A} → AtFront (replicate n v) lent out → (r : ℕ) → r < n → getD out r z ≡ v
+    same-at z n h r b = front-within z r h (omega (arith, length-replicate n v)) ∙ getD-replicate n r v z b
+
+    pub same-beyond : (z : A) (n : ℕ) {lent out : List A} → AtFront (replicate n v) lent out → (r : ℕ) → n ≤ r
+        → getD out r z ≡ getD lent r z
+    same-beyond z n h r b = front-beyond z r h (omega (arith, length-replicate n v))
+
+    -- and in m places more
+    pub same-more : (n m : ℕ) {lent s last : List A} → AtFront (replicate n v) lent s
+        → AtFront (replicate m v) (midOf n (length s - n) s) last
+        → AtFront (replicate (n + m) v) lent (putMid n (length s - n) s last)
+    same-more n m h k = rw (← replicate-append-replicate n m v) (front-behind n (length-replicate n v) h k)
+
+    -- written over by a list that is no longer: the value stands in the other places still
+    pub same-over : (m n : ℕ) {list lent mid out : List A} → length list ≡ m → m ≤ n → AtFront (replicate n v) lent mid
+        → AtFront list mid out
+        → AtFront (list ++ replicate (n - m) v) lent out
+    same-over m n {list} {lent} {mid} l b h k =
+        let rest = replicate (n - m) v in
+        let all : m + (n - m) ≡ n = omega arith in
+        let split : replicate m v ++ rest ≡ replicate n v = replicate-append-replicate m (n - m) v ∙ rw all in
+        let behind : drop m mid ≡ rest ++ drop n lent =
+        rw (front-is n (length-replicate n v) h, ← split, append-assoc (replicate m v) rest (drop n lent))
+        (drop-at (replicate m v) (rest ++ drop n lent) m (length-replicate m v)) in
+        front-by n (simp length-append (omega (arith, l, length-replicate (n - m) v)))
+        (omega (arith, front-fits h, h .len, length-replicate n v))
+        (front-is m l k ∙ rw behind (sym (append-assoc list rest (drop n lent))))
 
   -- ---- from a place on
 

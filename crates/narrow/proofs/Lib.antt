@@ -1,4 +1,5 @@
 pub mod Block
+pub mod Clearing
 pub mod Gathering
 pub mod Laws
 pub mod Packed

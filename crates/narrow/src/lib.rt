@@ -4,7 +4,8 @@
 // points of a row are picked from at once, a list each (crate select).
 ghost use mathlib.Core.Path.{_≡_};
 ghost use Prim.Native.Nat.{min, _+_, _*_, _/_, _<_, _≤_};
-ghost use lib.ListN.{length, drop};
+ghost use lib.Ieee.{binary32, ofBits};
+ghost use lib.ListN.{length, drop, replicate};
 ghost use Rattle.lists.specs.Front.{AtFront};
 ghost use Rattle.lists.specs.Inner.{Placed};
 ghost use Rattle.select.specs.Inner.{listCount};
@@ -115,13 +116,16 @@ fn narrow_row(
     }
 }
 
-// The narrowed planes, one after another, row by row.
-fn narrow_planes(f: usize, height: usize, width: usize, planes: &[f32], out: &mut [f32])
+// The narrowed planes, one after another, row by row. Rows of the planes are cleared once they were read, while the processor has them
+// at hand: clearing in a pass of its own would fetch them again.
+fn narrow_planes(f: usize, height: usize, width: usize, planes: &mut [f32], out: &mut [f32])
     requires { ⌜ FitPlanes 0 height width (now planes) × FactorIn f × (height * width ≤ length (now out)) ⌝ }
     ensures { λ _. ⌜ AtFront (packed (narrowed f (view height width (now (planes .entry))))) (now (out .entry)) (now (out .exit)) ⌝ }
+    ensures { λ _. ⌜ AtFront (replicate (3 * (height * width)) (ofBits binary32 0)) (now (planes .entry)) (now (planes .exit)) ⌝ }
 {
     let rows = height / f;
     let columns = width / f;
+    let band = f * width;
     let mut x: [f32; ROOM] = [0.0; ROOM];
     for r in 0..3 * rows {
         let from = r * columns;
@@ -135,7 +139,12 @@ fn narrow_planes(f: usize, height: usize, width: usize, planes: &[f32], out: &mu
             &mut x,
             &mut out[from..],
         );
+        let at = r * band;
+        lists::clear_f32(&mut planes[at..], band);
     }
+    let cleared = 3 * rows * band;
+    let rest = 3 * (height * width) - cleared;
+    lists::clear_f32(&mut planes[cleared..], rest);
 }
 
 // Narrows the planes by f. The first height · width entries of `scratch` are free afterwards.
@@ -144,9 +153,7 @@ pub fn narrow(f: usize, height: usize, width: usize, planes: &mut [f32], scratch
     ensures { λ _. ⌜ now (planes .exit) ≡ Spec.narrow f height width (now (planes .entry)) ⌝ }
     ensures { λ _. ⌜ drop (height * width) (now (scratch .exit)) ≡ drop (height * width) (now (scratch .entry)) ⌝ }
 {
-    let n = 3 * (height / f * (width / f));
-    let rest = 3 * (height * width) - n;
     narrow_planes(f, height, width, planes, scratch);
+    let n = 3 * (height / f * (width / f));
     lists::copy_f32(scratch, n, planes);
-    lists::clear_f32(&mut planes[n..], rest);
 }

@@ -8,8 +8,8 @@ ghost use Rattle.lists.specs.Inner.{Placed};
 ghost use Rattle.lists.specs.Tab.{tab};
 ghost use Rattle.select.specs.Inner.{listCount, listOf, UnitsIn, medianOf, chosen, Started, Sifted, DroppedEach, Selected};
 
-// So many lists: of 4, 8, 12, 16 and 32 the fastest where 16 registers hold four values each, as on x86-64. The smallest and the largest
-// values of 16 just fit them.
+// So many lists: 8, 12 and 32 are no faster where 16 registers hold four values each, as on x86-64. The smallest and the largest
+// values of 16 take half of them, of 32 all.
 pub const LIST_COUNT: usize = 16;
 
 // The smaller and the larger of values s and s + 1.

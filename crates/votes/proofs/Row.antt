@@ -8,16 +8,10 @@ use native.Mathlib.Numerals.{add-one}
 use native.Mathlib.Omega.{arith}
 use borrow.Author.Tests.{eq-eqb, ne-eqb, eqb-true, eqb-false}
 use lib.Dec.{eqb}
-use lib.ListN.{length, getD, set, drop, replicate, length-set, length-replicate, getD-replicate, drop-of-length-le}
+use lib.ListN.{length, getD, set, drop, length-set, drop-of-length-le}
 use lib.Seq.{getD-set-same, getD-set-other, drop-cons}
-use Rattle.lists.specs.Front.{AtFront}
-use Rattle.lists.proofs.Front.{front-within}
 use Rattle.votes.specs.Votes.{maxPitch, minPitch, votesOfLine, votes}
 use Rattle.votes.specs.Inner.{hit, Added}
-
--- a row that was cleared
-pub cleared-at : (width : ℕ) {row out : List ℕ} → AtFront (replicate width 0) row out → (o : ℕ) → o < width → getD out o 0 ≡ 0
-cleared-at width h o l = front-within 0 o h (rw (length-replicate {A = ℕ} width 0) l) ∙ getD-replicate width o 0 0 l
 
 -- ---- one vote
 

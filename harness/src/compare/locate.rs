@@ -391,7 +391,7 @@ impl Cases {
             (end.answer, narrowed, least) == (Some(5), 1, height.min(width))
                 && bits(ran.planes.iter().copied()) == bits(planes(&fresh))
         } else {
-            // the factor is below 100, and a side is divided by it as often as it was narrowed
+            // the factor is below BESIDE, and a side is divided by it as often as it was narrowed
             let by = factor.pow(narrowed);
             let sides = (ran.record.height, ran.record.width);
             factor >= 6 && least >= 4 && sides == (height / by, width / by)
@@ -506,7 +506,7 @@ impl Cases {
         if faults & BAD_FACTOR != 0 {
             // some are 3 in their low bits; four times 2^62 is 0
             let large = [(1 << 8) + 3, (1 << 16) + 3, (1 << 32) + 3, 1 << 62, usize::MAX];
-            call.factor = rng.pick(&[[0, 1, 6, 7, 99].as_slice(), &large].concat());
+            call.factor = rng.pick(&[[0, 1, 6, 7, BESIDE - 1].as_slice(), &large].concat());
         }
         if faults & BAD_SIDE != 0 {
             let below = least_side(factor) - 1;

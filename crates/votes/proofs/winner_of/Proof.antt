@@ -6,8 +6,9 @@ use mathlib.Core.Path.{_≡_, refl, _∙_}
 use native.Mathlib.Omega.{arith}
 use denote.Ref.{now}
 use lib.ListN.{length}
+use Rattle.lists.proofs.Front.{same-at}
 use Rattle.votes.specs.Votes.{votes}
-use Rattle.votes.proofs.Row.{cleared-at, votes-few}
+use Rattle.votes.proofs.Row.{votes-few}
 use Rattle.votes.proofs.Winner.{Passed, passed-none, passed-more, passed-all, passed-low, row-picks, winner-found}
 use borrow.Author.Needs.{needs}
 use Rattle.votes.proofs.winner_of.Statement.{statement}
@@ -69,7 +70,7 @@ vote-lines-requires c κs =
     let first = start at in
     let few = votes-few (first .args .e) (now (first .args .lines)) (at .loop .q) (first .pre .0 .2) in
     let cleared = clear .clear-u32 .ensures in
-    ((omega (arith, cleared .len), first .pre .0 .2, omega arith), λ o h. omega (arith, cleared-at _ cleared o h, few o))
+    ((omega (arith, cleared .len), first .pre .0 .2, omega arith), λ o h. omega (arith, same-at 0 0 _ cleared o h, few o))
 
 best-in-row-requires : tie.Need-best-in-row-requires Inv-loop μ-loop
 best-in-row-requires c κs =
@@ -90,7 +91,7 @@ loop-again c =
     let cleared = clear .clear-u32 .ensures in
     let at = at-loop clear in (
       voted .len ∙ cleared .len ∙ at .loop .inv .0,
-      passed-more (at .loop .inv .1) (omega arith) (row-picks (cleared-at _ cleared) voted (c .best-in-row .ensures)),
+      passed-more (at .loop .inv .1) (omega arith) (row-picks (same-at 0 0 _ cleared) voted (c .best-in-row .ensures)),
     )
 
 same-length : tie.Need-same-length Inv-loop μ-loop
