@@ -24,12 +24,12 @@ use Rattle.narrow.specs.Narrow.{median, narrowed}
 use Rattle.narrow.specs.Inner.{rowOf}
 use Rattle.narrow.proofs.Block.{unit-at}
 
-abbrev pub none : Float
-none = ofBits binary32 0
+abbrev pub zero32 : Float
+zero32 = ofBits binary32 0
 
 -- the first n values are 0.0, and the rest is as it was
 abbrev pub Cleared : ℕ → List Float → List Float → Type 0
-Cleared n before after = AtFront (replicate n none) before after
+Cleared n before after = AtFront (replicate n zero32) before after
 
 pub cleared-fit : (n : ℕ) {h w : ℕ} {lent out : List Float} → Cleared n lent out → FitPlanes 0 h w lent → FitPlanes 0 h w out
 unfolding unit toBits ofBits
@@ -44,8 +44,8 @@ cleared-fit n {h} {w} {lent} {out} x p =
     }
   where
     at : (q : ℕ) → q < 3 * (h * w) → (t : Bool) → ltb q n ≡ t → unit (getD out q nan) ≡ true
-    at q l true e = rw (same-at none nan n x q (ltb-true q n e)) refl
-    at q l false e = rw (same-beyond none nan n x q (ltb-false q n e)) (unit-at p q l)
+    at q l true e = rw (same-at zero32 nan n x q (ltb-true q n e)) refl
+    at q l false e = rw (same-beyond zero32 nan n x q (ltb-false q n e)) (unit-at p q l)
 
 -- what row r of the points is made of lies past the r · f · w values that are cleared before it
 lag : (f h w r u : ℕ) → let n = h / f in r * (f * w) ≤ r / n * (h * w) + (r % n * f + u) * w
@@ -73,7 +73,7 @@ row-same f h w r {lent} {out} x =
     tab-same (narrowed f (view h w lent) .width) _ _
     (λ j c.
     ap (λ (t : List Float). ranked t (f * f / 2))
-    (tab-same (f * f) _ _ (λ q d. same-beyond none nan (r * (f * w)) x _ (omega (arith, lag f h w r (q / f))))))
+    (tab-same (f * f) _ _ (λ q d. same-beyond zero32 nan (r * (f * w)) x _ (omega (arith, lag f h w r (q / f))))))
 
 -- what the loop clears is among the planes
 pub bands-in : (f h w : ℕ) → 3 * (h / f) * (f * w) ≤ 3 * (h * w)

@@ -117,7 +117,7 @@ fn narrow_row(
 }
 
 // The narrowed planes, one after another, row by row. Rows of the planes are cleared once they were read, while the processor has them
-// at hand: clearing in a pass of its own would fetch them again.
+// at hand: clearing in a pass of its own would fetch them again. Where rows are left over, what is cleared lags behind what was read.
 fn narrow_planes(f: usize, height: usize, width: usize, planes: &mut [f32], out: &mut [f32])
     requires { ⌜ FitPlanes 0 height width (now planes) × FactorIn f × (height * width ≤ length (now out)) ⌝ }
     ensures { λ _. ⌜ AtFront (packed (narrowed f (view height width (now (planes .entry))))) (now (out .entry)) (now (out .exit)) ⌝ }

@@ -6,7 +6,7 @@ use Rattle.lists.proofs.Front.{front-part, front-kept, same-over}
 use Rattle.board.specs.Screen.{view}
 use Rattle.board.proofs.Packed.{length-packed}
 use Rattle.narrow.specs.Narrow.{narrowed}
-use Rattle.narrow.proofs.Clearing.{none}
+use Rattle.narrow.proofs.Clearing.{zero32}
 use Rattle.narrow.proofs.Packed.{shrinks}
 use borrow.Author.Needs.{needs}
 use Rattle.narrow.proofs.narrow.Statement.{statement}
@@ -56,7 +56,7 @@ returns c =
     let long = length-packed (narrowed (a .f) (view (a .height) (a .width) (now (a .planes)))) in
     let front = rw (front-part n long (laid .narrow-planes .ensures .0)) at (copied .copy-f32 .ensures) in
     let fits = room (begun laid) in (
-      same-over none n (3 * (a .height * a .width)) long (omega arith) (laid .narrow-planes .ensures .1) front .is,
+      same-over zero32 n (3 * (a .height * a .width)) long (omega arith) (laid .narrow-planes .ensures .1) front .is,
       front-kept (a .height * a .width) (omega (arith, long)) (laid .narrow-planes .ensures .0),
     )
 

@@ -17,7 +17,7 @@ use Rattle.board.specs.Screen.{view}
 use Rattle.narrow.specs.Narrow.{narrowed}
 use Rattle.board.proofs.Packed.{planeRows, packed-rows}
 use Rattle.narrow.proofs.Packed.{next-row, row-in}
-use Rattle.narrow.proofs.Clearing.{none, Cleared, cleared-fit, row-same, bands-in, band-in}
+use Rattle.narrow.proofs.Clearing.{zero32, Cleared, cleared-fit, row-same, bands-in, band-in}
 use borrow.Author.Needs.{needs}
 use Rattle.narrow.proofs.narrow_planes.Statement.{statement}
 use Rattle.narrow.proofs.narrow_planes.Tie as tie
@@ -149,7 +149,7 @@ loop-again c =
       search needs,
       next-row s r (at .loop .inv .3) (rw same at (known .before .before .before .narrow-row .ensures)),
       rw (add-mul r 1 (a .f * a .width), one-mul)
-          (same-more none (r * (a .f * a .width)) (a .f * a .width) (at .loop .inv .4) (c .before .before .clear-f32 .ensures)),
+          (same-more zero32 (r * (a .f * a .width)) (a .f * a .width) (at .loop .inv .4) (c .before .before .clear-f32 .ensures)),
     )
 
 -- what the loop cleared lies within the planes
@@ -208,7 +208,7 @@ returns c =
     let rest = 3 * (a .height * a .width) - n in
     let all : n + rest ≡ 3 * (a .height * a .width) = omega (arith, loop-cleared done .0) in (
       rw (packed-rows (narrowed (a .f) (view (a .height) (a .width) (now (a .planes))))) (rw r at (done .before .loop .inv .3)),
-      rw all at (same-more none n rest (rw r at (done .before .loop .inv .4)) (c .before .before .clear-f322 .ensures)),
+      rw all at (same-more zero32 n rest (rw r at (done .before .loop .inv .4)) (c .before .before .clear-f322 .ensures)),
     )
 
 pub narrow-planes-spec : {M : Type 1} → statement M
