@@ -47,11 +47,13 @@ extern "C" {
 #define FOLGUTAN_MOST_SCORE 4096
 
 /* Limits of sampling: both pitches, the numbers of a cell and of the record,
- * and the size of a sampled cell. */
+ * the size of a sampled cell, and its values (02, R-2): an output of
+ * FOLGUTAN_MOST_CELL entries is never too short. */
 #define FOLGUTAN_LEAST_PITCH 8.0f
 #define FOLGUTAN_MOST_PITCH 200.0f
 #define FOLGUTAN_MOST_NUMBER 4096
-#define FOLGUTAN_MOST_SIZE 64
+#define FOLGUTAN_MOST_SIZE 24
+#define FOLGUTAN_MOST_CELL 1728 /* 3 * 24 * 24 */
 
 /* Answers. Where a call finds several faults, its own list of refusals says
  * which is found first (01, How each operation declines). */
@@ -226,14 +228,15 @@ typedef struct {
 folgutan_reading folgutan_read_line(const uint32_t *list, size_t list_len,
                                     uint32_t *scratch, size_t scratch_len);
 
-/* Samples one cell of a board (01, Cell sampling).
+/* Samples one cell of a board (01, Cell sampling; 02, R-2).
  *
  * board: sides, corner, offsets and pitches are taken; r and c are not looked
  *   at, so that a cell outside the board can be sampled too.
  * planes: as locating leaves them.
  * x, y: the board row and the board column of the cell.
  * out: 3 * size * size values; entry k * size * size + i * size + j is plane k
- *   at point (i, j) of the cell. Size 0 writes nothing.
+ *   at point (i, j) of the cell. Size 0 writes nothing, and size 24, the
+ *   largest, FOLGUTAN_MOST_CELL values.
  *
  * Each call reads all planes for FOLGUTAN_BAD_VALUE, whatever the size of the
  * cell: one pass over the planes (1 to 2 ms at 1920 by 1080).
@@ -247,7 +250,7 @@ folgutan_reading folgutan_read_line(const uint32_t *list, size_t list_len,
  *                         -0.0
  *   FOLGUTAN_BAD_PITCH    pixelr or pixelc is not 8.0 to 200.0
  *   FOLGUTAN_BAD_NUMBER   x, y, r_1, c_1, r0 or c0 is above 4096, or size
- *                         above 64
+ *                         above 24
  *   FOLGUTAN_SHORT_SLICE  out_len is below 3 * size * size
  *   FOLGUTAN_OUTSIDE      a sampled row or column is not in the picture
  *   Then nothing is written. */

@@ -111,7 +111,7 @@ static void worked_case(void)
 
 static void sample_sizes(void)
 {
-    static const size_t sizes[] = {0, 1, 2, 3, 24, 63, 64};
+    static const size_t sizes[] = {0, 1, 2, 3, 23, 24};
     for (size_t at = 0; at < COUNT(sizes); at++) {
         call c = fitting();
         c.size = sizes[at];
@@ -134,15 +134,75 @@ static void sample_sizes(void)
         c.out_len = 0;
         sample_case("no output", c, FOLGUTAN_SHORT_SLICE);
     }
-    static const size_t above[] = {65, 66, 4096, (size_t)1 << 32, (size_t)1 << 63, SIZE_MAX};
-    for (size_t at = 0; at < COUNT(above); at++) {
+    for (size_t size = 0; size <= FOLGUTAN_MOST_SIZE; size++) {
         call c = fitting();
-        c.size = above[at];
-        c.out_len = 3 * 66 * 66;
-        sample_case("size above 64", c, FOLGUTAN_BAD_NUMBER);
-        c.out_len = 0;
-        sample_case("size above 64, no output", c, FOLGUTAN_BAD_NUMBER);
+        c.size = size;
+        c.out_len = FOLGUTAN_MOST_CELL;
+        sample_case("room for every size", c, FOLGUTAN_DONE);
     }
+}
+
+/* 11 whatever the output's length, after the pitch and before the places. Some of the sizes are 24
+ * or less in their low 8, 16 or 32 bits. */
+static void sample_sizes_above(void)
+{
+    static const size_t sizes[] = {25, 26, 63, 64, 65, 66, 256 + 24, 4096, 65536 + 24,
+                                   (size_t)1 << 32, ((size_t)1 << 32) + 24, (size_t)1 << 63,
+                                   SIZE_MAX};
+    static const size_t lengths[] = {0, 1, 1727, 1728, 1875, 3 * 64 * 64, 3 * 66 * 66};
+    for (size_t at = 0; at < COUNT(sizes); at++) {
+        call c = fitting();
+        c.size = sizes[at];
+        for (size_t l = 0; l < COUNT(lengths); l++) {
+            c.out_len = lengths[l];
+            sample_case("size above 24", c, FOLGUTAN_BAD_NUMBER);
+        }
+        c.out_len = 0;
+        c.x = 100;
+        sample_case("size above 24, outside", c, FOLGUTAN_BAD_NUMBER);
+        c.board.pixelr = 7.75f;
+        sample_case("size above 24 and pitch", c, FOLGUTAN_BAD_PITCH);
+        c.bad = 0;
+        c.bits = 0x3F800001;
+        sample_case("size above 24 and value", c, FOLGUTAN_BAD_VALUE);
+        c.planes_len--;
+        sample_case("size above 24, planes short", c, FOLGUTAN_SHORT_SLICE);
+        c.board.width = 3;
+        sample_case("size above 24 and side", c, FOLGUTAN_BAD_SIDE);
+    }
+}
+
+/* 64 by 64 with pitch 24.0: cell (0, 0) with size 24 has each of its 24 rows and columns once. */
+static void sample_every_pixel(void)
+{
+    static const struct {
+        size_t size, out_len;
+        uint32_t answer;
+    } calls[] = {
+        {24, 1728, FOLGUTAN_DONE},
+        {24, 1727, FOLGUTAN_SHORT_SLICE},
+        {25, 1875, FOLGUTAN_BAD_NUMBER},
+        {25, 0, FOLGUTAN_BAD_NUMBER},
+    };
+    static float planes[3 * 64 * 64], out[FOLGUTAN_MOST_CELL];
+    folgutan_board board = {.height = 64, .width = 64, .r = 1, .c = 1,
+                            .pixelr = 24.0f, .pixelc = 24.0f};
+    for (size_t at = 0; at < COUNT(calls); at++) {
+        call c = {.board = board, .planes_len = COUNT(planes), .size = calls[at].size,
+                  .out_len = calls[at].out_len, .bad = NOWHERE};
+        sample_case("pitch 24.0", c, calls[at].answer);
+    }
+    for (size_t at = 0; at < COUNT(planes); at++)
+        planes[at] = plane_value(at);
+    uint32_t answer =
+        folgutan_sample(board, planes, COUNT(planes), 0, 0, FOLGUTAN_MOST_SIZE, out, COUNT(out));
+    int values = answer == FOLGUTAN_DONE;
+    for (size_t k = 0; k < 3; k++)
+        for (size_t i = 0; i < 24; i++)
+            for (size_t j = 0; j < 24; j++)
+                values &= bits_of(out[576 * k + 24 * i + j])
+                          == bits_of(planes[4096 * k + 64 * i + j]);
+    check(values, "sample, pitch 24.0", "each pixel once");
 }
 
 static void sample_sides(void)
@@ -175,7 +235,7 @@ static void sample_sides(void)
                 c.board.width = bad[at];
             sample_case("bad side", c, FOLGUTAN_BAD_SIDE);
             c.planes_len = 0;
-            c.size = 65;
+            c.size = 25;
             c.board.pixelr = float_of(0x7FC00000);
             sample_case("bad side and all else", c, FOLGUTAN_BAD_SIDE);
         }
@@ -211,7 +271,7 @@ static void sample_values(void)
             c.size = 0;
             sample_case("unfit value, size 0", c, FOLGUTAN_BAD_VALUE);
             /* pitch, numbers and output are looked at later, the planes' length before */
-            c.size = 65;
+            c.size = 25;
             c.out_len = 0;
             c.board.pixelc = 0.0f;
             sample_case("unfit value and pitch", c, FOLGUTAN_BAD_VALUE);
@@ -253,10 +313,10 @@ static void sample_pitches(void)
     call c = fitting();
     c.board.pixelr = 200.0f;
     c.x = 0;
-    c.size = 64;
-    c.out_len = 3 * 64 * 64;
-    c.board.height = 210;
-    c.planes_len = 3 * 210 * 60;
+    c.size = 24;
+    c.out_len = 3 * 24 * 24;
+    c.board.height = 204; /* the last row is 203 */
+    c.planes_len = 3 * 204 * 60;
     sample_case("pitch 200.0", c, FOLGUTAN_DONE);
 }
 
@@ -316,6 +376,8 @@ void test_sample(void)
 {
     worked_case();
     sample_sizes();
+    sample_sizes_above();
+    sample_every_pixel();
     sample_sides();
     sample_values();
     sample_pitches();

@@ -1,4 +1,4 @@
--- The board record and its limits: 01, "Load" and "How each operation declines", and 02, R-1.
+-- The board record and its limits: 01, "Load" and "How each operation declines", and 02, R-1 and R-2.
 use Prim.Native.Nat.{ℕ, max, _*_}
 use mathlib.Core.Path.{_≡_}
 use mathlib.Core.Bool.{Bool, not, _&&_, _||_}
@@ -22,7 +22,7 @@ mostSide = 4096
 
 -- the largest side of a cell's sample
 abbrev pub mostSize : ℕ
-mostSize = 64
+mostSize = 24
 
 -- the factors of a narrowing
 abbrev pub leastFactor : ℕ

@@ -54,7 +54,7 @@ impl Board {
     pub const MOST_SIDE: usize = 4096;
 
     // The side of a cell's sample.
-    pub const MOST_SIZE: usize = 64;
+    pub const MOST_SIZE: usize = 24;
 
     // Factors of a narrowing.
     pub const LEAST_FACTOR: usize = 2;

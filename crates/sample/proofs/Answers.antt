@@ -17,7 +17,7 @@ use Rattle.board.proofs.Sides.{both, neither, passed}
 use Rattle.board.specs.Planes.{planesAnswer}
 use Rattle.sample.specs.Inner.{AxisIn, CellGives}
 use Rattle.sample.specs.Sample.{mostNumber, rowAt, columnAt, pitchOutside, allBelow, numbersAbove, cell, cellAnswer, sampleAnswer}
-use Rattle.sample.specs.Sample.{SampleGives}
+use Rattle.sample.specs.Sample.{SampleGives, mostCell}
 
 -- two rules that agree below n
 pub all-below-same : (f g : ℕ → ℕ) (limit n : ℕ) → ((i : ℕ) → i < n → f i ≡ g i) → allBelow f limit n ≡ allBelow g limit n
@@ -39,7 +39,7 @@ below-at f limit (suc n) e i b =
 pub record NumbersIn (x y r₁ c₁ r₀ c₀ size : ℕ) : Type 0 where
   pub down : AxisIn r₁ r₀ x size
   pub across : AxisIn c₁ c₀ y size
-  pub square : size * size ≤ mostSize * mostSize
+  pub fits : 3 * (size * size) ≤ mostCell
 
 pub numbers-in : (x y r₁ c₁ r₀ c₀ size : ℕ) → numbersAbove x y r₁ c₁ r₀ c₀ size ≡ false → NumbersIn x y r₁ c₁ r₀ c₀ size
 unfolding numbersAbove
@@ -55,7 +55,7 @@ numbers-in x y r₁ c₁ r₀ c₀ size e =
     record {
       down = record { corner-in = at-most r₁ (b .1); offset-in = at-most r₀ (d .1); number-in = at-most x (a .0); size-in = s };
       across = record { corner-in = at-most c₁ (c .1); offset-in = at-most c₀ (e .1); number-in = at-most y (a .1); size-in = s };
-      square = mul-le-mul s s;
+      fits = omega (arith, mul-le-mul s s);
     }
 
 -- what the answer 0 tells

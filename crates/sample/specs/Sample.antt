@@ -1,5 +1,5 @@
--- 01, "Cell sampling", and its refusals. All operations are binary32, in the order written.
-use Prim.Native.Nat.{ℕ, zero, suc, _*_, _/_, _%_}
+-- 01, "Cell sampling", its refusals, and 02, R-2. All operations are binary32, in the order written.
+use Prim.Native.Nat.{ℕ, zero, suc, _*_, _/_, _%_, _≤_}
 use mathlib.Core.Path.{_≡_}
 use mathlib.Core.Bool.{Bool, true, false, not, cond, _&&_, _||_}
 use mathlib.Core.List.{List, []}
@@ -76,3 +76,16 @@ pub record SampleGives (b : Board) (planes : List Float) (x y size : ℕ) (befor
     : Type 0 where
   pub answer-is : answer ≡ sampleAnswer b planes x y size (length before)
   pub out-is : AtFront (cond (eqb answer 0) (cell b planes x y size) []) before after
+
+-- ---- the room that a cell takes
+
+-- the values of the largest cell
+abbrev pub mostCell : ℕ
+mostCell = 1728
+
+-- 02, R-2: a cell always fits so many values. A call that samples writes no more, and an output of so many entries gets the answer that
+-- any longer one gets: it is never too short.
+pub record CellFits (b : Board) (planes : List Float) (x y size : ℕ) : Type 0 where
+  pub largest : mostCell ≡ 3 * (mostSize * mostSize)
+  pub values-fit : (room : ℕ) → sampleAnswer b planes x y size room ≡ 0 → length (cell b planes x y size) ≤ mostCell
+  pub room-enough : (room : ℕ) → mostCell ≤ room → sampleAnswer b planes x y size room ≡ sampleAnswer b planes x y size mostCell

@@ -1,4 +1,4 @@
-//! One cell of 24 by 24, by the inner function and by the public one, which reads all planes.
+//! A cell of the largest size, by the inner function and the public one, which reads all planes.
 
 use super::screen::Kind;
 use super::{least, timed};

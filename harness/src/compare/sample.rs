@@ -12,6 +12,7 @@ use crate::record::Record;
 use crate::rng::Rng;
 
 const MOST: usize = 4096;
+const MOST_SIZE: usize = 24;
 
 /// One call but for the planes.
 #[derive(Clone, Copy, Debug)]
@@ -75,9 +76,9 @@ pub fn compare(run: &Run) -> Outcome {
 }
 
 const PITCH: &str = "a pitch below 8.0, above 200.0, negative, 0 or no number";
-const NUMBER: &str = "x, y, r_1, c_1, r0 or c0 above 4,096, size 1 to 64";
+const NUMBER: &str = "x, y, r_1, c_1, r0 or c0 above 4,096, size 1 to 24";
 const NUMBER_SIZE_0: &str = "the same at size 0";
-const SIZE: &str = "a size above 64";
+const SIZE: &str = "a size above 24";
 const OUTSIDE: &str = "a sampled place is not in the picture";
 
 const SIX: &[&str] = &["x", "y", "r_1", "c_1", "r0", "c0"];
@@ -147,7 +148,11 @@ fn built(cases: &mut Cases) -> Result<(), String> {
         call.size = 0;
         one(call, (11, true))?;
     }
-    one(Call { size: 65, out: 3 * 65 * 65, ..fitting }, (11, true))?;
+    for size in [25, 64, 65] {
+        for out in [3 * size * size, 0] {
+            one(Call { size, out, ..fitting }, (11, true))?;
+        }
+    }
     one(Call { x: 40, ..fitting }, (12, false))?;
     one(Call { y: 40, ..fitting }, (12, false))
 }
@@ -175,8 +180,8 @@ fn near_whole(rng: &mut Rng, cases: &mut Cases, run: &Run) -> Result<(), String>
     };
     // pitches in quarters, all of them
     for quarter in 32..=800 {
-        for size in 1..=64 {
-            if run.long || [3, 7, 11, 24, 25].contains(&size) {
+        for size in 1..=MOST_SIZE {
+            if run.long || [3, 7, 11, 23, 24].contains(&size) {
                 one(rng, quarter as f32 / 4.0, size)?;
             }
         }
@@ -184,7 +189,7 @@ fn near_whole(rng: &mut Rng, cases: &mut Cases, run: &Run) -> Result<(), String>
     // pitches for which a point lies on a whole number, and their neighbours
     let mut left = run.choose(4_000, 200_000);
     while left > 0 {
-        let (size, whole) = (rng.between(1, 64), rng.between(1, 200));
+        let (size, whole) = (rng.between(1, MOST_SIZE), rng.between(1, 200));
         let pitch = (whole * 2 * size) as f32 / (2 * rng.below(size) + 1) as f32;
         let pitch = f32::from_bits(pitch.to_bits() - 1 + rng.below(3) as u32);
         if (8.0..=200.0).contains(&pitch) {
@@ -241,7 +246,7 @@ fn fitting(rng: &mut Rng, height: usize, width: usize) -> Call {
         },
         x,
         y,
-        size: rng.pick(&[0, 1, 2, 3, 4, 5, 7, 8, 13, 24, 24, 31, 63, 64]),
+        size: rng.pick(&[0, 1, 2, 3, 4, 5, 7, 8, 13, 17, 22, 23, 24, 24]),
         out: 0,
     };
     if rng.below(8) == 0 {
@@ -278,8 +283,8 @@ fn break_rules(rng: &mut Rng, call: &mut Call) {
             3 => call.y = rng.pick(&numbers),
             4 => call.record.r_1 = rng.pick(&numbers),
             5 => call.record.c0 = rng.pick(&numbers),
-            6 => call.size = rng.pick(&[65, 66, 100, 0]),
-            7 => call.size = rng.pick(&[1 << 32, usize::MAX, 65]),
+            6 => call.size = rng.pick(&[25, 26, 64, 100, 0]),
+            7 => call.size = rng.pick(&[1 << 32, usize::MAX, 25]),
             _ => call.out = call.out.saturating_sub(rng.between(1, 60)),
         }
     }
@@ -309,8 +314,8 @@ impl Cases {
                 let kinds = pitches.into_iter().filter_map(kind);
                 kinds.for_each(|kind| self.met.count_part(PITCH, kind));
             }
-            (11, true) if call.size > 64 => self.met.count(SIZE),
-            (11, _) if call.size <= 64 => {
+            (11, true) if call.size > MOST_SIZE => self.met.count(SIZE),
+            (11, _) if call.size <= MOST_SIZE => {
                 let row = if call.size == 0 { NUMBER_SIZE_0 } else { NUMBER };
                 for (part, number) in SIX.iter().zip(call.numbers()) {
                     if *number > MOST {
@@ -377,7 +382,7 @@ fn departs(call: &Call, planes: &[f32], answer: u32, rust: Option<&[f32]>) -> Op
         Some(cell) if cell.len() != 3 * size * size => {
             return Some(format!("{} values of the Rust at size {size}", cell.len()));
         }
-        Some(_) if answer == 11 && (1..=64).contains(&size) => {
+        Some(_) if answer == 11 && (1..=MOST_SIZE).contains(&size) => {
             return Some("a number above 4,096 is sampled by the Rust".into());
         }
         _ => (),
@@ -435,7 +440,7 @@ fn rule(call: &Call, planes: &[f32]) -> Option<u32> {
         return Some(10);
     }
     let numbers = [call.x, call.y, r.r_1, r.c_1, r.r0, r.c0];
-    if numbers.iter().any(|&n| n > MOST) || call.size > 64 {
+    if numbers.iter().any(|&n| n > MOST) || call.size > MOST_SIZE {
         return Some(11);
     }
     (call.out < 3 * call.size * call.size).then_some(3)

@@ -56,10 +56,10 @@ unfolding cellAnswer
 returns-2 c = rw (pitches (c .before .before), sym (c .before .numbers-above .ensures) ∙ c .if2 .taken)
 
 mul-if3 : tie.Need-mul-if3
-mul-if3 c = omega (arith, numbers c .square)
+mul-if3 c = omega (arith, numbers c .fits)
 
 mul-if3-2 : tie.Need-mul-if3-2
-mul-if3-2 c = omega (arith, numbers c .square)
+mul-if3-2 c = omega (arith, numbers c .fits)
 
 returns-3 : tie.Need-returns-3
 unfolding cellAnswer
