@@ -71,8 +71,14 @@ pub fn compare(run: &Run) -> Outcome {
         }
     }
     near_whole(rng, &mut cases, run)?;
-    let Cases { count, done, met, .. } = cases;
-    Ok(Tally { cases: count, note: format!("; {done} sampled{}", met.note()?) })
+    let Cases { count, sampled, met, .. } = cases;
+    if let Some(size) = sampled.iter().position(|&calls| calls == 0) {
+        return Err(format!("no call with size {size} was sampled"));
+    }
+    let all: u64 = sampled.iter().sum();
+    let fewest = sampled.iter().min().unwrap();
+    let note = format!("; {all} sampled, each size at least {fewest} times{}", met.note()?);
+    Ok(Tally { cases: count, note })
 }
 
 const PITCH: &str = "a pitch below 8.0, above 200.0, negative, 0 or no number";
@@ -292,7 +298,8 @@ fn break_rules(rng: &mut Rng, call: &mut Call) {
 
 struct Cases {
     count: u64,
-    done: u64,
+    /// Calls that sample, by their size.
+    sampled: [u64; MOST_SIZE + 1],
     met: Met,
     /// Of the last call: the answer, and whether the Rust returns.
     end: Option<(u32, bool)>,
@@ -300,14 +307,19 @@ struct Cases {
 
 impl Cases {
     fn new() -> Result<Cases, String> {
-        Ok(Cases { count: 0, done: 0, met: Met::new("sampling", ROWS)?, end: None })
+        Ok(Cases {
+            count: 0,
+            sampled: [0; MOST_SIZE + 1],
+            met: Met::new("sampling", ROWS)?,
+            end: None,
+        })
     }
 
     /// Counts a call whose planes are fit, and which the Rust was run on.
     fn ended(&mut self, mut call: Call, answer: u32, returns: bool) {
         self.end = Some((answer, returns));
         match (answer, returns) {
-            (0, _) => self.done += 1,
+            (0, _) => self.sampled[call.size] += 1,
             (12, _) => self.met.count(OUTSIDE),
             (10, true) => {
                 let pitches = [call.record.pixelr, call.record.pixelc];
