@@ -47,13 +47,13 @@ extern "C" {
 #define FOLGUTAN_MOST_SCORE 4096
 
 /* Limits of sampling: both pitches, the numbers of a cell and of the record,
- * the size of a sampled cell, and its values (02, R-2): an output of
- * FOLGUTAN_MOST_CELL entries is never too short. */
+ * the size of a sampled cell, and how many values it has (02, R-2): an output
+ * of FOLGUTAN_MOST_CELL_VALUES entries, 1728, is never too short. */
 #define FOLGUTAN_LEAST_PITCH 8.0f
 #define FOLGUTAN_MOST_PITCH 200.0f
 #define FOLGUTAN_MOST_NUMBER 4096
 #define FOLGUTAN_MOST_SIZE 24
-#define FOLGUTAN_MOST_CELL 1728 /* 3 * 24 * 24 */
+#define FOLGUTAN_MOST_CELL_VALUES (3 * FOLGUTAN_MOST_SIZE * FOLGUTAN_MOST_SIZE)
 
 /* Answers. Where a call finds several faults, its own list of refusals says
  * which is found first (01, How each operation declines). */
@@ -236,7 +236,7 @@ folgutan_reading folgutan_read_line(const uint32_t *list, size_t list_len,
  * x, y: the board row and the board column of the cell.
  * out: 3 * size * size values; entry k * size * size + i * size + j is plane k
  *   at point (i, j) of the cell. Size 0 writes nothing, and size 24, the
- *   largest, FOLGUTAN_MOST_CELL values.
+ *   largest, FOLGUTAN_MOST_CELL_VALUES values.
  *
  * Each call reads all planes for FOLGUTAN_BAD_VALUE, whatever the size of the
  * cell: one pass over the planes (1 to 2 ms at 1920 by 1080).

@@ -54,7 +54,7 @@ _Static_assert(FOLGUTAN_NO_GAP == 6 && FOLGUTAN_TOO_FAR == 7, "answers");
 _Static_assert(FOLGUTAN_BAD_PITCH == 10 && FOLGUTAN_BAD_NUMBER == 11, "answers");
 _Static_assert(FOLGUTAN_OUTSIDE == 12 && FOLGUTAN_BAD_FACTOR == 13, "answers");
 _Static_assert(FOLGUTAN_LEAST_PLANE_SIDE == 4, "limits");
-_Static_assert(FOLGUTAN_MOST_SIZE == 24 && FOLGUTAN_MOST_CELL == 1728, "limits");
+_Static_assert(FOLGUTAN_MOST_SIZE == 24 && FOLGUTAN_MOST_CELL_VALUES == 1728, "limits");
 _Static_assert(FOLGUTAN_LEAST_FACTOR == 2 && FOLGUTAN_MOST_FACTOR == 5, "limits");
 _Static_assert(FOLGUTAN_LEAST_LIST == 4 && FOLGUTAN_MOST_LIST == 4096, "limits");
 _Static_assert(FOLGUTAN_MOST_SCORE == 4096 && FOLGUTAN_MOST_NUMBER == 4096, "limits");

@@ -1,4 +1,4 @@
-/* Sampling (01, Cell sampling). */
+/* Sampling (01, Cell sampling; 02, R-2). */
 #include "folgutan.h"
 
 #include "calls.h"
@@ -137,7 +137,7 @@ static void sample_sizes(void)
     for (size_t size = 0; size <= FOLGUTAN_MOST_SIZE; size++) {
         call c = fitting();
         c.size = size;
-        c.out_len = FOLGUTAN_MOST_CELL;
+        c.out_len = FOLGUTAN_MOST_CELL_VALUES;
         sample_case("room for every size", c, FOLGUTAN_DONE);
     }
 }
@@ -172,31 +172,18 @@ static void sample_sizes_above(void)
     }
 }
 
-/* 64 by 64 with pitch 24.0: cell (0, 0) with size 24 has each of its 24 rows and columns once. */
+/* 64 by 64 with pitch 24.0: at size 24 cell (0, 0) has each pixel of its rows and columns once. */
 static void sample_every_pixel(void)
 {
-    static const struct {
-        size_t size, out_len;
-        uint32_t answer;
-    } calls[] = {
-        {24, 1728, FOLGUTAN_DONE},
-        {24, 1727, FOLGUTAN_SHORT_SLICE},
-        {25, 1875, FOLGUTAN_BAD_NUMBER},
-        {25, 0, FOLGUTAN_BAD_NUMBER},
-    };
-    static float planes[3 * 64 * 64], out[FOLGUTAN_MOST_CELL];
     folgutan_board board = {.height = 64, .width = 64, .r = 1, .c = 1,
                             .pixelr = 24.0f, .pixelc = 24.0f};
-    for (size_t at = 0; at < COUNT(calls); at++) {
-        call c = {.board = board, .planes_len = COUNT(planes), .size = calls[at].size,
-                  .out_len = calls[at].out_len, .bad = NOWHERE};
-        sample_case("pitch 24.0", c, calls[at].answer);
-    }
+    static float planes[3 * 64 * 64], out[FOLGUTAN_MOST_CELL_VALUES];
     for (size_t at = 0; at < COUNT(planes); at++)
         planes[at] = plane_value(at);
     uint32_t answer =
         folgutan_sample(board, planes, COUNT(planes), 0, 0, FOLGUTAN_MOST_SIZE, out, COUNT(out));
-    int values = answer == FOLGUTAN_DONE;
+    check(answer == FOLGUTAN_DONE, "sample, pitch 24.0", "answer");
+    int values = 1;
     for (size_t k = 0; k < 3; k++)
         for (size_t i = 0; i < 24; i++)
             for (size_t j = 0; j < 24; j++)

@@ -17,7 +17,7 @@ use Rattle.board.proofs.Sides.{both, neither, passed}
 use Rattle.board.specs.Planes.{planesAnswer}
 use Rattle.sample.specs.Inner.{AxisIn, CellGives}
 use Rattle.sample.specs.Sample.{mostNumber, rowAt, columnAt, pitchOutside, allBelow, numbersAbove, cell, cellAnswer, sampleAnswer}
-use Rattle.sample.specs.Sample.{SampleGives, mostCell}
+use Rattle.sample.specs.Sample.{SampleGives, mostCellValues}
 
 -- two rules that agree below n
 pub all-below-same : (f g : ℕ → ℕ) (limit n : ℕ) → ((i : ℕ) → i < n → f i ≡ g i) → allBelow f limit n ≡ allBelow g limit n
@@ -39,7 +39,7 @@ below-at f limit (suc n) e i b =
 pub record NumbersIn (x y r₁ c₁ r₀ c₀ size : ℕ) : Type 0 where
   pub down : AxisIn r₁ r₀ x size
   pub across : AxisIn c₁ c₀ y size
-  pub fits : 3 * (size * size) ≤ mostCell
+  pub fits : 3 * (size * size) ≤ mostCellValues
 
 pub numbers-in : (x y r₁ c₁ r₀ c₀ size : ℕ) → numbersAbove x y r₁ c₁ r₀ c₀ size ≡ false → NumbersIn x y r₁ c₁ r₀ c₀ size
 unfolding numbersAbove

@@ -12,29 +12,29 @@ use Rattle.lists.proofs.Tab.{length-tabFrom}
 use Rattle.board.specs.declared.Board.{Board}
 use Rattle.board.specs.Board.{leastPlaneSide}
 use Rattle.board.specs.Planes.{planesAnswer}
-use Rattle.sample.specs.Sample.{numbersAbove, cellAnswer, sampleAnswer, cell, mostCell, CellFits}
+use Rattle.sample.specs.Sample.{numbersAbove, cellAnswer, sampleAnswer, cell, mostCellValues, CellFits}
 use Rattle.sample.proofs.Answers.{numbers-in, cell-in}
 
-module _ (b : Board) (x y size : ℕ) where
-  -- where both checks answer 0, that of the cell does
-  cell-passed : (first room : ℕ) → cond (eqb first 0) (cellAnswer b x y size room) first ≡ 0 → cellAnswer b x y size room ≡ 0
-  cell-passed first room e = go (eqb first 0) refl e
-    where
-      go : (t : Bool) → eqb first 0 ≡ t → cond t (cellAnswer b x y size room) first ≡ 0 → cellAnswer b x y size room ≡ 0
-      go true q e = e
-      go false q e = absurd (eqb-false first 0 q e)
+-- a call that answers 0 passed its later checks too
+later-passed : (first later : ℕ) → cond (eqb first 0) later first ≡ 0 → later ≡ 0
+later-passed first later e = go (eqb first 0) refl e
+  where
+    go : (t : Bool) → eqb first 0 ≡ t → cond t later first ≡ 0 → later ≡ 0
+    go true q e = e
+    go false q e = absurd (eqb-false first 0 q e)
 
-  -- with room for the largest cell, more of it decides nothing
-  room-same : (room : ℕ) → mostCell ≤ room → cellAnswer b x y size room ≡ cellAnswer b x y size mostCell
-  unfolding cellAnswer
-  room-same room long = go (numbersAbove x y (b .«r_1») (b .«c_1») (b .r0) (b .c0) size) refl
-    where
-      go : (t : Bool) → numbersAbove x y (b .«r_1») (b .«c_1») (b .r0) (b .c0) size ≡ t
-          → cellAnswer b x y size room ≡ cellAnswer b x y size mostCell
-      go true e = rw e
-      go false e =
-          let fits = numbers-in x y (b .«r_1») (b .«c_1») (b .r0) (b .c0) size e .fits in
-          rw (e, le-ltb room (3 * (size * size)) (omega (arith, fits, long)), le-ltb mostCell (3 * (size * size)) fits)
+-- with room for the largest cell, more of it decides nothing
+room-same : (b : Board) (x y size room : ℕ) → mostCellValues ≤ room
+    → cellAnswer b x y size room ≡ cellAnswer b x y size mostCellValues
+unfolding cellAnswer
+room-same b x y size room long = go (numbersAbove x y (b .«r_1») (b .«c_1») (b .r0) (b .c0) size) refl
+  where
+    go : (t : Bool) → numbersAbove x y (b .«r_1») (b .«c_1») (b .r0) (b .c0) size ≡ t
+        → cellAnswer b x y size room ≡ cellAnswer b x y size mostCellValues
+    go true e = rw e
+    go false e =
+        let fits = numbers-in x y (b .«r_1») (b .«c_1») (b .r0) (b .c0) size e .fits in
+        rw (e, le-ltb room (3 * (size * size)) (omega (arith, fits, long)), le-ltb mostCellValues (3 * (size * size)) fits)
 
 -- of any record and planes, any cell, and any size
 pub cell-fits : (b : Board) (planes : List Float) (x y size : ℕ) → CellFits b planes x y size
@@ -46,6 +46,6 @@ cell-fits b planes x y size =
       values-fit =
           λ room e.
           let values : length (cell b planes x y size) ≡ 3 * (size * size) = length-tabFrom 0 (3 * (size * size)) _ in
-          rw values (cell-in b x y size room (cell-passed b x y size first room e) .numbers .fits);
+          rw values (cell-in b x y size room (later-passed first (cellAnswer b x y size room) e) .numbers .fits);
       room-enough = λ room long. ap (λ (n : ℕ). cond (eqb first 0) n first) (room-same b x y size room long);
     }

@@ -80,12 +80,12 @@ pub record SampleGives (b : Board) (planes : List Float) (x y size : ℕ) (befor
 -- ---- the room that a cell takes
 
 -- the values of the largest cell
-abbrev pub mostCell : ℕ
-mostCell = 1728
+abbrev pub mostCellValues : ℕ
+mostCellValues = 1728
 
 -- 02, R-2: a cell always fits so many values. A call that samples writes no more, and an output of so many entries gets the answer that
 -- any longer one gets: it is never too short.
 pub record CellFits (b : Board) (planes : List Float) (x y size : ℕ) : Type 0 where
-  pub largest : mostCell ≡ 3 * (mostSize * mostSize)
-  pub values-fit : (room : ℕ) → sampleAnswer b planes x y size room ≡ 0 → length (cell b planes x y size) ≤ mostCell
-  pub room-enough : (room : ℕ) → mostCell ≤ room → sampleAnswer b planes x y size room ≡ sampleAnswer b planes x y size mostCell
+  pub largest : mostCellValues ≡ 3 * (mostSize * mostSize)
+  pub values-fit : (room : ℕ) → sampleAnswer b planes x y size room ≡ 0 → length (cell b planes x y size) ≤ mostCellValues
+  pub room-enough : (room : ℕ) → mostCellValues ≤ room → sampleAnswer b planes x y size room ≡ sampleAnswer b planes x y size mostCellValues

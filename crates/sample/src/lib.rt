@@ -1,5 +1,5 @@
-// Sampling a cell of the board (01, "Cell sampling"). A call refuses with 1, 3, 4, 10, 11, 3 and 12, in that order, before it writes.
-// Definitions: specs/Sample; specs/Inner is for the inner functions. Laws for callers: proofs/Laws (a cell fits 1,728 values).
+// Sampling a cell of the board (01, "Cell sampling", and 02, R-2). A call refuses with 1, 3, 4, 10, 11, 3 and 12, in that order, before
+// it writes. Definitions: specs/Sample; specs/Inner is for the inner functions. Laws for callers: proofs/Laws (the room that a cell takes).
 ghost use mathlib.Core.Path.{_≡_};
 ghost use Prim.Native.Nat.{ℕ, _+_, _*_, _≤_, _<_};
 ghost use lib.ListN.{length, getD};

@@ -1,5 +1,5 @@
-//! Sampling beside `extra_save_cell`: bits, or its panic as refusal 12. What 01 refuses is held to
-//! the rule, and the Rust there to the values at the places of 01's formula.
+//! Sampling beside `extra_save_cell`: bits, or its panic as refusal 12. What 01 and 02 refuse is held
+//! to the rule, and the Rust there to the values at the places of 01's formula.
 
 use super::lent::Lent;
 use super::met::{as_built, Met, Row};
@@ -135,6 +135,8 @@ fn built(cases: &mut Cases) -> Result<(), String> {
         as_built(&format!("{call:?}"), Some(end), cases.end)
     };
     one(fitting, (0, true))?;
+    one(Call { size: MOST_SIZE, out: 1728, ..fitting }, (0, true))?;
+    one(Call { size: MOST_SIZE, out: 1727, ..fitting }, (3, true))?;
     for pitch in [4.0, 201.0, -40.0, 0.0, -0.0, f32::NAN] {
         for (down, across) in [(true, false), (false, true), (true, true)] {
             let mut call = fitting;
@@ -433,7 +435,7 @@ fn values_at(call: &Call, planes: &[f32]) -> Option<Vec<f32>> {
     Some(out)
 }
 
-/// The refusal that 01 asks for, but for 12.
+/// The refusal that 01 and 02 ask for, but for 12.
 fn rule(call: &Call, planes: &[f32]) -> Option<u32> {
     let r = call.record;
     let fits = |side| (4..=MOST).contains(&side);
