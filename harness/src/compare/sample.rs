@@ -1,5 +1,5 @@
-//! Sampling beside `extra_save_cell`: bits, or its panic as refusal 12. What 01 and 02 refuse is held
-//! to the rule, and the Rust there to the values at the places of 01's formula.
+//! Sampling beside `extra_save_cell`: bits, or its panic as refusal 12. What 01 and 02 refuse is
+//! held to the rule, and the Rust there to the values at the places of 01's formula.
 
 use super::lent::Lent;
 use super::met::{as_built, Met, Row};
