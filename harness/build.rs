@@ -20,16 +20,18 @@ fn main() {
 /// stand-in, `edges` and `bounds` of src/original/probe.rs hand back what they are handed.
 const ADDED: &[(&str, &[&str])] = &[
     (
-        "        let [mut r_1, mut r_2, mut c_1, mut c_2, mut r_p_1, mut r_p_2, mut c_p_1, mut c_p_2] =",
-        &["crate::original::probe::first(&x_bw3);"],
-    ),
-    (
         "            let [r_1_, r_2_, c_1_, c_2_, r_p_1_, r_p_2_, c_p_1_, c_p_2_] = self.get_r12c12(&x_bw3);",
         &["crate::original::probe::narrowed();"],
     ),
     (
+        "            if row <= 64 || column <= 64 {",
+        &["crate::original::probe::picture(&x_bw3);"],
+    ),
+    (
         "        for c in (1..c_1 + 1).rev() {",
         &[
+            "crate::original::probe::picture(&x_bw3);",
+            "crate::original::probe::scanned([r_1, r_2, c_1, c_2]);",
             "let x_bw3 = crate::original::probe::edges(x_bw3);",
             "let [row, column] = crate::original::probe::sides([row, column]);",
             "let [mut r_1, mut r_2, mut c_1, mut c_2, r_p_1, r_p_2, c_p_1, c_p_2] = crate::original::probe::bounds([r_1, r_2, c_1, c_2, r_p_1, r_p_2, c_p_1, c_p_2]);",
@@ -50,12 +52,21 @@ const ADDED: &[(&str, &[&str])] = &[
     ),
 ];
 
-/// The line of the original that narrows, there once, and what the probed copy has for it: the
-/// factor of the run.
-const CHANGED: (&str, &str) =
-    ("            self.narrow(3);", "self.narrow(crate::original::probe::factor());");
+/// Lines of the original, each there once, and what the probed copy has for them: each narrowing has the
+/// factor of the run (02, R-1), and the outer `x_bw3` is mutable, and set where the inner one was (02, R-3).
+const CHANGED: &[(&str, &str)] = &[
+    ("            self.narrow(3);", "self.narrow(crate::original::probe::factor());"),
+    (
+        "        let x_bw3 = self.binarize_gradient(&x_bw2);",
+        "        let mut x_bw3 = self.binarize_gradient(&x_bw2);",
+    ),
+    (
+        "            let x_bw3 = self.binarize_gradient(&x_bw2);",
+        "            x_bw3 = self.binarize_gradient(&x_bw2);",
+    ),
+];
 
-/// A copy of the original in OUT_DIR with lines added that store locals, and one line changed.
+/// A copy of the original in OUT_DIR with lines added that store locals, and some changed.
 fn probed(file: &Path) -> PathBuf {
     let text = fs::read_to_string(file).expect("the Rust original can be read");
     let mut out = String::new();
@@ -71,13 +82,13 @@ fn probed(file: &Path) -> PathBuf {
                 }
             }
         }
-        let own = line == CHANGED.0;
-        changed += own as usize;
-        out.push_str(if own { CHANGED.1 } else { line });
+        let other = CHANGED.iter().find(|change| line == change.0);
+        changed += other.is_some() as usize;
+        out.push_str(other.map_or(line, |change| change.1));
         out.push('\n');
     }
     assert_eq!(found, ADDED.len(), "each line to probe is in the Rust original once");
-    assert_eq!(changed, 1, "the line that narrows is in the Rust original once");
+    assert_eq!(changed, CHANGED.len(), "each line to change is in the Rust original once");
     let copy = PathBuf::from(env::var("OUT_DIR").expect("cargo sets it")).join("obr_probed.rs");
     fs::write(&copy, out).expect("the probed copy can be written");
     copy

@@ -49,6 +49,7 @@ pub struct Drawn {
 
 const LINE: Pixel = [30, 30, 30, 255];
 const BACKGROUND: Pixel = [200, 200, 190, 255];
+const BAR: Pixel = [90, 90, 90, 255];
 
 impl Drawn {
     /// A board that fills most of the screen.
@@ -99,6 +100,41 @@ pub fn noisy(rng: &mut Rng, pixels: &mut [u8], by: i32) {
         let shift = rng.below(2 * by as usize + 1) as i32 - by;
         *byte = (*byte as i32 + shift).clamp(0, 255) as u8;
     }
+}
+
+/// A screen that often takes as many narrowings by the factor as said, 1 at least, and is read then: a
+/// board that has small cells by then, and flat bars through the middle, which the first scan cannot
+/// cross. Around most boards lies a margin, which is flat unless all but the bars is noisy.
+pub fn zoomed(
+    rng: &mut Rng,
+    height: usize,
+    width: usize,
+    factor: usize,
+    narrowings: u32,
+) -> Vec<u8> {
+    let before = factor.pow(narrowings - 1);
+    let scale = factor * before;
+    let (down, right) = (rng.below(scale), rng.below(scale));
+    let most = (height.min(width) / scale / 4).clamp(8, 20);
+    let mut board = Drawn::filling(rng, height / scale, width / scale, 6, most);
+    if rng.below(4) == 0 {
+        (board.top, board.left) = (0, 0);
+        (board.rows, board.columns) = (height, width);
+    }
+    let by = rng.pick(&[0, 0, 1, 3]);
+    let thick = rng.between(8 * before, 10 * before);
+    let (rows, columns) = rng.pick(&[(true, false), (false, true), (true, true)]);
+    let in_bar = |at: usize, side: usize| at + thick / 2 >= side / 2 && at + thick / 2 < side / 2 + thick;
+    let mut pixels = painted(height, width, |i, j| {
+        board.at((i + down) / scale, (j + right) / scale).unwrap_or(BACKGROUND)
+    });
+    noisy(rng, &mut pixels, by);
+    for (at, pixel) in pixels.chunks_mut(4).enumerate() {
+        if (rows && in_bar(at / width, height)) || (columns && in_bar(at % width, width)) {
+            pixel.copy_from_slice(&BAR);
+        }
+    }
+    pixels
 }
 
 /// A screen that is narrowed and often read afterwards: coarse texture everywhere, a flat bar

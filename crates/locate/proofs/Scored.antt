@@ -1,5 +1,5 @@
--- The reference of a call whose loop of narrowings ended well: its bounds are wide and lie inside the pictures, and
--- its lists are the bounds' scores. Assumes nothing.
+-- The reference of a call whose loop of narrowings ended well: its bounds are wide and lie inside the picture, and its
+-- lists are the bounds' scores. Assumes nothing.
 use Prim.Native.Nat.{ℕ, _-_, _*_, _≤_}
 use mathlib.Core.Path.{_≡_, refl}
 use mathlib.Core.Bool.{false}
@@ -11,7 +11,7 @@ use Rattle.board.specs.Board.{leastLocated}
 use Rattle.board.specs.Inner.{FactorIn, FitPlanes}
 use Rattle.edges.proofs.Laws.{length-edges}
 use Rattle.bounds.proofs.Laws.{Wide, within, wide}
-use Rattle.narrowings.specs.Loop.{Stage, first, pictureAt, boundsAt, thin, lastOf}
+use Rattle.narrowings.specs.Loop.{Stage, pictureAt, boundsAt, thin, lastOf}
 use Rattle.narrowings.proofs.Turns.{Sound, spans, sound-around, last-sound}
 use Rattle.strips.specs.Strip.{columnScores, rowScores}
 use Rattle.locate.specs.Reference.{Reference, referenceOf}
@@ -34,34 +34,29 @@ module _ (f h w : ℕ) (planes : List Float) where
     abbrev l : Stage
     l = lastOf f h w planes .stage
 
-    pub sound : Sound f h w (length planes) l
+    pub sound : Sound (leastLocated f) h w (length planes) l
     sound = last-sound f i h w planes p ends .0
 
     pub not-thin : thin (l .height) (l .width) (boundsAt l) ≡ false
     not-thin = last-sound f i h w planes p ends .1
 
     -- both spans of the widened bounds are at least 4, and they lie inside the last picture
-    pub wide-enough : Wide (l .height - 2) (l .width - 2) (referenceOf f h w planes .bounds)
+    wide-enough : Wide (l .height - 2) (l .width - 2) (referenceOf f h w planes .bounds)
     unfolding referenceOf
     wide-enough =
         let s = sound .fit .sides in
         let n = spans (l .height) (l .width) (boundsAt l) not-thin in
-        wide (pictureAt (first h w planes)) (omega (arith, s .low-h)) (omega (arith, s .low-w)) (within (sound-around sound)) (n .0) (n .1)
+        let a = sound-around (omega arith) sound in
+        wide (pictureAt l) (omega (arith, s .low-h)) (omega (arith, s .low-w)) (within a) (n .0) (n .1)
 
     pub scored : Scored (referenceOf f h w planes)
     unfolding referenceOf
     scored =
-        let e = wide-enough in
         record {
-          wide = record {
-            rows = e .rows;
-            row-end = omega (arith, e .row-end, sound .high-h);
-            columns = e .columns;
-            column-end = omega (arith, e .column-end, sound .high-w);
-          };
-          rows-end = omega (arith, p .sides .high-h);
-          columns-end = omega (arith, p .sides .high-w);
-          whole = length-edges h w planes;
+          wide = wide-enough;
+          rows-end = omega (arith, sound .fit .sides .high-h);
+          columns-end = omega (arith, sound .fit .sides .high-w);
+          whole = length-edges (l .height) (l .width) (l .planes);
           columns-are = refl;
           rows-are = refl;
         }

@@ -10,16 +10,14 @@ use lib.ListN.{length, take, drop}
 use Rattle.lists.specs.Front.{AtFront}
 use Rattle.lists.proofs.Front.{front-none}
 use Rattle.board.specs.declared.Board.{Board}
-use Rattle.board.specs.declared.Bounds.{Bounds}
 use Rattle.board.specs.Board.{leastLocated, resized}
 use Rattle.board.specs.Inner.{FactorIn, FitPlanes}
-use Rattle.edges.specs.Edges.{edges}
 use Rattle.edges.proofs.Laws.{edge-le}
 use Rattle.bounds.proofs.Laws as Bounds
 use Rattle.narrowings.specs.declared.Narrowed.{Narrowed}
-use Rattle.narrowings.specs.Loop.{first, boundsAt, Last, lastOf}
+use Rattle.narrowings.specs.Loop.{edgesAt, boundsAt, Last, lastOf}
 use Rattle.narrowings.specs.Inner.{Looks, Narrows}
-use Rattle.narrowings.proofs.Looking.{edges-in, edges-part}
+use Rattle.narrowings.proofs.Looking.{edges-in}
 use Rattle.narrowings.proofs.Turns.{spans, sound-around}
 use Rattle.locate.specs.declared.Located.{Located}
 use Rattle.locate.specs.Reference.{referenceOf}
@@ -31,9 +29,9 @@ use Rattle.locate.proofs.Scored.{sound, not-thin}
 
 module _ (b : Board) (f : ℕ) (before : Lent) (i : FactorIn f) (p : FitPlanes (leastLocated f) (b .height) (b .width) (before .planes))
     (room : NoneShort (b .height) (b .width) before)
-    {l : Narrowed} {start : Bounds} {planes' : List Float} {edges' : List ℕ}
-    (looks : Looks (first (b .height) (b .width) (before .planes)) (before .edges) start edges')
-    (narrows : Narrows (lastOf f (b .height) (b .width) (before .planes)) l planes') where
+    {l : Narrowed} {planes' : List Float} {edges' : List ℕ}
+    (narrows : Narrows (b .height) (b .width) (lastOf f (b .height) (b .width) (before .planes)) l planes' edges')
+    (edged : AtFront (edgesAt (lastOf f (b .height) (b .width) (before .planes) .stage)) (before .edges) edges') where
   abbrev h : ℕ
   h = b .height
 
@@ -43,8 +41,11 @@ module _ (b : Board) (f : ℕ) (before : Lent) (i : FactorIn f) (p : FitPlanes (
   abbrev last : Last
   last = lastOf f h w (before .planes)
 
-  picture-is : take ((h - 2) * (w - 2)) edges' ≡ edges h w (before .planes)
-  picture-is = edges-part h w (before .planes) (looks .bytes-are)
+  abbrev n : ℕ
+  n = (l .height - 2) * (l .width - 2)
+
+  picture-is : take n edges' ≡ edgesAt (last .stage)
+  picture-is = rw (narrows .height-is, narrows .width-is) (narrows .looks .bytes-are)
 
   planes-left : planes' ≡ referenceFor b f before .last .stage .planes
   unfolding referenceOf
@@ -52,7 +53,7 @@ module _ (b : Board) (f : ℕ) (before : Lent) (i : FactorIn f) (p : FitPlanes (
 
   edges-left : AtFront (referenceFor b f before .edges) (before .edges) edges'
   unfolding referenceOf
-  edges-left = looks .bytes-are
+  edges-left = edged
 
   -- the screen got too small
   pub works-small : {r : Located} (f32 : List Float) (u8 u32 : List ℕ) → l .small ≡ true
@@ -73,37 +74,35 @@ module _ (b : Board) (f : ℕ) (before : Lent) (i : FactorIn f) (p : FitPlanes (
     large : last .tooSmall ≡ false
     large = sym (narrows .small-is) ∙ ok
 
-    pub leads : Leads h w l edges' (length (before .scores)) (length (before .scratch-u8)) (length (before .scratch-u32))
+    pub leads : Leads l edges' (length (before .scores)) (length (before .scratch-u8)) (length (before .scratch-u32))
     leads =
         let s = sound f h w (before .planes) i p large in
-        let a = sound-around s in
-        let n = spans (last .stage .height) (last .stage .width) (boundsAt (last .stage)) (not-thin f h w (before .planes) i p large) in
+        let a = sound-around (omega arith) s in
+        let spans = spans (last .stage .height) (last .stage .width) (boundsAt (last .stage)) (not-thin f h w (before .planes) i p large) in
         let h-is = narrows .height-is in
         let w-is = narrows .width-is in
-        let b-is = narrows .bounds-are ok in
+        let b-is = narrows .looks .bounds-are in
         record {
-          high = p .sides .high-h;
-          wide = p .sides .high-w;
           low-h = rw h-is (omega (arith, s .fit .sides .low-h));
-          high-h = rw h-is (s .high-h);
+          high-h = rw h-is (s .fit .sides .high-h);
           low-w = rw w-is (omega (arith, s .fit .sides .low-w));
-          high-w = rw w-is (s .high-w);
+          high-w = rw w-is (s .fit .sides .high-w);
           within = rw (h-is, w-is, b-is) (Bounds.within a);
-          rows = rw (h-is, b-is) (n .0);
-          columns = rw (w-is, b-is) (n .1);
-          there = edges-in h w (before .planes) (looks .bytes-are);
-          marks = λ k. rw picture-is (edge-le h w (before .planes) k);
-          scores-in = room .scores-in;
-          u8-in = room .u8-in;
-          u32-in = room .u32-in;
+          rows = rw (h-is, b-is) (spans .0);
+          columns = rw (w-is, b-is) (spans .1);
+          there = rw (h-is, w-is) (edges-in (last .stage .height) (last .stage .width) (last .stage .planes) edged);
+          marks = λ k. rw picture-is (edge-le (last .stage .height) (last .stage .width) (last .stage .planes) k);
+          scores-in = omega (arith, h-is, w-is, s .high-h, s .high-w, room .scores-in);
+          u8-in = omega (arith, narrows .area, room .u8-in);
+          u32-in = omega (arith, h-is, w-is, s .high-h, s .high-w, room .u32-in);
         }
 
     pub works-read : {r : Located} {scores' : List ℕ} (f32 : List Float) (u8 u32 : List ℕ)
-        → ReadsFrom b l (take ((h - 2) * (w - 2)) edges') (before .scores) r scores'
+        → ReadsFrom b l (take n edges') (before .scores) r scores'
         → Works b f before r (lent planes' edges' scores' f32 u8 u32)
     unfolding referenceOf
     works-read {r} {scores'} f32 u8 u32 e =
-        let is = rw (picture-is, narrows .height-is, narrows .width-is, narrows .narrowed-is, narrows .bounds-are ok) at e in
+        let is = rw (picture-is, narrows .height-is, narrows .width-is, narrows .narrowed-is, narrows .looks .bounds-are) at e in
         record {
           located-is = rw large (is .located-is);
           planes-are = planes-left;

@@ -24,22 +24,20 @@ pub record NoneShort (h w : ℕ) (s : Lent) : Type 0 where
   pub u8-in : h * w ≤ length (s .scratch-u8)
   pub u32-in : 4 * (h + w) ≤ length (s .scratch-u32)
 
--- where the loop ended well: the last picture lies in the first one, its bounds are not thin, and there is room for the rest
-pub record Leads (h w : ℕ) (l : Narrowed) (edges : List ℕ) (scores u8 u32 : ℕ) : Type 0 where
-  pub high : h ≤ 4096
-  pub wide : w ≤ 4096
+-- where the loop ended well: the bounds of the last picture are not thin, its edge picture is there, and there is room for the rest
+pub record Leads (l : Narrowed) (edges : List ℕ) (scores u8 u32 : ℕ) : Type 0 where
   pub low-h : 12 ≤ l .height
-  pub high-h : l .height ≤ h
+  pub high-h : l .height ≤ 4096
   pub low-w : 12 ≤ l .width
-  pub high-w : l .width ≤ w
+  pub high-w : l .width ≤ 4096
   pub within : BoundsIn (l .height - 2) (l .width - 2) (l .bounds)
   pub rows : (l .height - 2) / 3 < l .bounds .«r_2» - l .bounds .«r_1»
   pub columns : (l .width - 2) / 3 < l .bounds .«c_2» - l .bounds .«c_1»
-  pub there : (h - 2) * (w - 2) ≤ length edges
-  pub marks : (k : ℕ) → getD (take ((h - 2) * (w - 2)) edges) k 0 ≤ 1
-  pub scores-in : h + w ≤ scores
-  pub u8-in : h * w ≤ u8
-  pub u32-in : 4 * (h + w) ≤ u32
+  pub there : (l .height - 2) * (l .width - 2) ≤ length edges
+  pub marks : (k : ℕ) → getD (take ((l .height - 2) * (l .width - 2)) edges) k 0 ≤ 1
+  pub scores-in : l .height + l .width ≤ scores
+  pub u8-in : l .height * l .width ≤ u8
+  pub u32-in : 4 * (l .height + l .width) ≤ u32
 
 -- the scores of the picture E over the bounds, and what their readings make of the record
 pub record ReadsOn (E : ℕ → ℕ → Bool) (b : Board) (narrowed : ℕ) (bounds : Bounds) (before : List ℕ) (r : Located) (after : List ℕ)
@@ -47,10 +45,10 @@ pub record ReadsOn (E : ℕ → ℕ → Bool) (b : Board) (narrowed : ℕ) (boun
   pub located-is : r ≡ joined b narrowed bounds (quartersOf (columnScores E bounds)) (quartersOf (rowScores E bounds))
   pub scores-are : AtFront (columnScores E bounds ++ rowScores E bounds) before after
 
--- the same with the last bounds widened on the first edge picture
+-- the same with the bounds of the last picture, widened on its edge picture
 abbrev pub ReadsFrom : Board → Narrowed → List ℕ → List ℕ → Located → List ℕ → Type 0
 ReadsFrom b l edges before r after =
-    let E = points (b .width - 2) 1 edges in
+    let E = points (l .width - 2) 1 edges in
     ReadsOn E (resized b (l .height) (l .width)) (l .narrowed) (widen E (l .height - 2) (l .width - 2) (l .bounds)) before r after
 
 -- what the work leaves where the checks passed

@@ -1,5 +1,5 @@
--- What locating is held to: by the rules of 01, "Locating", and 02, R-1, from the factor, the sides and the planes as handed in, and from
--- nothing else.
+-- What locating is held to: by the rules of 01, "Locating", and 02, R-1 and R-3, from the factor, the sides and the planes as handed in,
+-- and from nothing else.
 use Prim.Native.Nat.{ℕ, _-_}
 use mathlib.Core.Bool.{Bool}
 use mathlib.Core.List.{List}
@@ -7,7 +7,7 @@ use lib.Ieee.{Float}
 use Rattle.lists.specs.Picture.{flip}
 use Rattle.board.specs.declared.Bounds.{Bounds}
 use Rattle.bounds.specs.Bounds.{widen}
-use Rattle.narrowings.specs.Loop.{Last, first, edgesAt, pictureAt, boundsAt, lastOf}
+use Rattle.narrowings.specs.Loop.{Last, edgesAt, pictureAt, boundsAt, lastOf}
 use Rattle.strips.specs.Strip.{columnScores, rowScores}
 
 pub record Reference : Type 0 where
@@ -18,25 +18,26 @@ pub record Reference : Type 0 where
   pub column : ℕ
   pub edges : List ℕ
   pub picture : ℕ → ℕ → Bool
-  -- the last bounds, widened on it
+  -- its bounds, widened on it
   pub bounds : Bounds
   -- the scores of the columns, and of the rows
   pub columns : List ℕ
   pub rows : List ℕ
 
--- All steps below the loop use the first edge picture with the last bounds; the widening's rows, columns and thirds are the last picture's
--- too. Every narrowing of the loop has the factor f.
+-- The picture that is scored is the last one, which the planes hold afterwards: all steps below the loop use its edge picture. Every
+-- narrowing of the loop has the factor f.
 unfoldable pub referenceOf : ℕ → ℕ → ℕ → List Float → Reference
 unfolding lastOf
 referenceOf f h w planes =
     let last = lastOf f h w planes in
-    let scored = first h w planes in
-    let l = last .stage in
-    let b = widen (pictureAt scored) (l .height - 2) (l .width - 2) (boundsAt l) in
+    let scored = last .stage in
+    let row = scored .height - 2 in
+    let column = scored .width - 2 in
+    let b = widen (pictureAt scored) row column (boundsAt scored) in
     record {
       last = last;
-      row = scored .height - 2;
-      column = scored .width - 2;
+      row = row;
+      column = column;
       edges = edgesAt scored;
       picture = pictureAt scored;
       bounds = b;

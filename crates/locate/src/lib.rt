@@ -1,4 +1,4 @@
-// Locating the board (01, "Locating"; 02, R-1). It refuses with 13, then 1, 3 and 4, then 5 to 9. Definitions:
+// Locating the board (01, "Locating"; 02, R-1 and R-3). It refuses with 13, then 1, 3 and 4, then 5 to 9. Definitions:
 // specs/Reference (what it is held to, from the factor, sides and planes as handed in), specs/Locate (what a call hands
 // back and leaves), specs/Promise (on the same edge picture no walk and no vote beats what it hands back). The loop of
 // narrowings is crate narrowings, the scores and their readings crate axes.
@@ -200,8 +200,8 @@ fn joined(b: Board, narrowed: u32, bounds: Bounds, columns: Quarters, rows: Quar
     }
 }
 
-// What follows the loop: the last bounds are widened on the first edge picture, which stands at the front of `edges`,
-// and both axes are read.
+// What follows the loop: the bounds of the last picture are widened on its edge picture, which stands at the front of
+// `edges`, and both axes are read.
 fn read_from(
     b: Board,
     l: Narrowed,
@@ -212,15 +212,16 @@ fn read_from(
 ) -> Located
     requires { let bytes = length (now «scratch_u8») in
         let words = length (now «scratch_u32») in
-        ⌜ Leads (b .height) (b .width) l (now edges) (length (now scores)) bytes words ⌝ }
+        ⌜ Leads l (now edges) (length (now scores)) bytes words ⌝ }
     ensures { λ r.
-        let picture = take ((b .height - 2) * (b .width - 2)) (now (edges .entry)) in
+        let picture = take ((l .height - 2) * (l .width - 2)) (now (edges .entry)) in
         ⌜ ReadsFrom b l picture (now (scores .entry)) r (now (scores .exit)) ⌝ }
 {
-    let stride = b.width - 2;
-    let n = (b.height - 2) * stride;
-    let wide = bounds::widen(&edges[..n], stride, l.height - 2, l.width - 2, l.bounds);
-    let axes = axes::read_axes(&edges[..n], stride, wide, scores, scratch_u8, scratch_u32);
+    let row = l.height - 2;
+    let column = l.width - 2;
+    let n = row * column;
+    let wide = bounds::widen(&edges[..n], column, row, column, l.bounds);
+    let axes = axes::read_axes(&edges[..n], column, wide, scores, scratch_u8, scratch_u32);
     let columns = axes.columns;
     let rows = axes.rows;
     joined(
@@ -253,15 +254,12 @@ fn work(
         (now («scratch_f32» .exit)) (now («scratch_u8» .exit)) (now («scratch_u32» .exit)) in
         ⌜ Works b factor before r after ⌝ }
 {
-    let height = b.height;
-    let width = b.width;
-    let start = narrowings::look(height, width, planes, scratch_f32, edges);
-    let l = narrowings::narrow_on(
+    let l = narrowings::last_picture(
         factor,
-        height,
-        width,
-        start,
+        b.height,
+        b.width,
         planes,
+        edges,
         scratch_f32,
         scratch_u8,
     );

@@ -9,17 +9,21 @@ use native.Mathlib.Omega.{arith}
 use borrow.Author.Tests.{leb-false}
 use lib.Dec.{leb}
 use lib.Ieee.{Float}
-use lib.ListN.{length}
+use lib.ListN.{length, take}
+use Rattle.lists.specs.Front.{AtFront}
 use Rattle.board.specs.declared.Bounds.{Bounds}
-use Rattle.board.specs.Board.{leastLocated}
+use Rattle.board.specs.Board.{leastPlaneSide, leastLocated}
 use Rattle.board.specs.Inner.{FactorIn, FitPlanes}
 use Rattle.board.proofs.Planes.{fit-lower}
 use Rattle.board.proofs.Sides.{neither}
 use Rattle.narrow.specs.Narrow.{narrow}
 use Rattle.narrow.proofs.Laws.{smaller, narrow-length, narrow-fit}
+use Rattle.gradient.proofs.Laws.{inner-le}
 use Rattle.bounds.proofs.Laws.{Around, around}
-use Rattle.narrowings.specs.Loop.{Stage, first, pictureAt, boundsAt, thin, small, next, Last, oneTurn, looped, lastOf}
-use Rattle.narrowings.specs.Inner.{Narrows}
+use Rattle.narrowings.specs.declared.Narrowed.{Narrowed}
+use Rattle.narrowings.specs.Loop.{Stage, first, edgesAt, pictureAt, boundsAt, thin, small, next, Last, oneTurn, looped, lastOf}
+use Rattle.narrowings.specs.Inner.{Looks, Narrows}
+use Rattle.narrowings.proofs.Looking.{edges-part}
 
 -- a picture that is not small
 pub large : (h w : ℕ) → small h w ≡ false → (67 ≤ h) × (67 ≤ w)
@@ -36,24 +40,25 @@ spans h w b e =
     (leb-false (b .«r_2» - b .«r_1») ((h - 2) / 3) (a .0), leb-false (b .«c_2» - b .«c_1») ((w - 2) / 3) (a .1))
 
 -- what passes on: the planes are fit, the sides are within the first ones, and the slice is as long
-pub record Sound (f h w long : ℕ) (s : Stage) : Type 0 where
-  pub fit : FitPlanes (leastLocated f) (s .height) (s .width) (s .planes)
+pub record Sound (least h w long : ℕ) (s : Stage) : Type 0 where
+  pub fit : FitPlanes least (s .height) (s .width) (s .planes)
   pub high-h : s .height ≤ h
   pub high-w : s .width ≤ w
   pub area : s .height * s .width ≤ h * w
   pub long-is : length (s .planes) ≡ long
 
-pub sound-first : {f h w : ℕ} {planes : List Float} → FitPlanes (leastLocated f) h w planes → Sound f h w (length planes) (first h w planes)
+pub sound-first : {least h w : ℕ} {planes : List Float} → FitPlanes least h w planes → Sound least h w (length planes) (first h w planes)
 sound-first p = record { fit = p; high-h = omega arith; high-w = omega arith; area = omega arith; long-is = refl }
 
 -- the bounds of such a screen lie around its middle
-pub sound-around : {f h w long : ℕ} {s : Stage} → Sound f h w long s → Around (s .height - 2) (s .width - 2) (boundsAt s)
-sound-around {s = s} p = around (pictureAt s) (omega (arith, p .fit .sides .low-h)) (omega (arith, p .fit .sides .low-w))
+pub sound-around : {least h w long : ℕ} {s : Stage} → leastPlaneSide ≤ least → Sound least h w long s
+    → Around (s .height - 2) (s .width - 2) (boundsAt s)
+sound-around {s = s} l p = around (pictureAt s) (omega (arith, p .fit .sides .low-h)) (omega (arith, p .fit .sides .low-w))
 
 -- they are in order
-pub ordered : {f h w long : ℕ} {s : Stage} → Sound f h w long s
+pub ordered : {least h w long : ℕ} {s : Stage} → leastPlaneSide ≤ least → Sound least h w long s
     → (boundsAt s .«r_1» ≤ boundsAt s .«r_2») × (boundsAt s .«c_1» ≤ boundsAt s .«c_2»)
-ordered p = let a = sound-around p in (omega (arith, a .rows .low, a .rows .high), omega (arith, a .columns .low, a .columns .high))
+ordered l p = let a = sound-around l p in (omega (arith, a .rows .low, a .rows .high), omega (arith, a .columns .low, a .columns .high))
 
 -- before a turn of the code's loop: the loop from the start is the loop from here, and enough turns are left.
 pub record Going (f h w : ℕ) (start : List Float) (s : Stage) : Type 0 where
@@ -61,32 +66,38 @@ pub record Going (f h w : ℕ) (start : List Float) (s : Stage) : Type 0 where
   pub same : lastOf f h w start ≡ looped f turns s
   pub enough : s .height ≤ turns
   pub counted : s .narrowed + turns ≡ h
-  pub sound : Sound f h w (length start) s
+  pub sound : Sound (leastLocated f) h w (length start) s
 
 pub going-first : {f h w : ℕ} {planes : List Float} → FitPlanes (leastLocated f) h w planes → Going f h w planes (first h w planes)
 unfolding lastOf
 going-first {h = h} p = record { turns = h; same = refl; enough = omega arith; counted = omega arith; sound = sound-first p }
 
 module _ (f : ℕ) (i : FactorIn f) where
-  -- a narrowed side is at least 4
-  pub four : {h w long : ℕ} {s : Stage} → Sound f h w long s → (4 ≤ s .height / f) × (4 ≤ s .width / f)
-  four p =
-      let s = p .fit .sides in
-      let pos : 0 < f = omega (arith, i .low) in
-      (le-div-iff-mul-le pos .1 (omega (arith, s .low-h)), le-div-iff-mul-le pos .1 (omega (arith, s .low-w)))
-
-  pub sound-next : {h w long : ℕ} {s : Stage} → Sound f h w long s → small (s .height / f) (s .width / f) ≡ false
-      → Sound f h w long (next f s)
-  sound-next {s = s} p e =
-      let l = large (s .height / f) (s .width / f) e in
+  narrowed-sound : (least : ℕ) {h w long : ℕ} {s : Stage} → Sound (leastLocated f) h w long s → least ≤ s .height / f → least ≤ s .width / f
+      → Sound least h w long (next f s)
+  narrowed-sound least {s = s} p a b =
       record {
-        fit = narrow-fit f (i .low) (leastLocated f) (fit-lower 0 (omega arith) (p .fit)) (omega (arith, i .high, l .0))
-            (omega (arith, i .high, l .1));
+        fit = narrow-fit f (i .low) least (fit-lower 0 (omega arith) (p .fit)) a b;
         high-h = omega (arith, p .high-h, div-le-self (s .height) f);
         high-w = omega (arith, p .high-w, div-le-self (s .width) f);
         area = omega (arith, p .area, smaller f (s .height) (s .width));
         long-is = narrow-length f (s .height) (s .width) (s .planes) (p .fit .there) ∙ p .long-is;
       }
+
+  -- a narrowed side is at least 4: there is an edge picture
+  pub sound-next : {h w long : ℕ} {s : Stage} → Sound (leastLocated f) h w long s → Sound leastPlaneSide h w long (next f s)
+  sound-next p =
+      let s = p .fit .sides in
+      let pos : 0 < f = omega (arith, i .low) in
+      narrowed-sound leastPlaneSide p (le-div-iff-mul-le pos .1 (omega (arith, s .low-h)))
+      (le-div-iff-mul-le pos .1 (omega (arith, s .low-w)))
+
+  -- and where it is not small, it can be narrowed again
+  pub sound-large : {h w long : ℕ} {s : Stage} → Sound (leastLocated f) h w long s → small (s .height / f) (s .width / f) ≡ false
+      → Sound (leastLocated f) h w long (next f s)
+  sound-large {s = s} p e =
+      let l = large (s .height / f) (s .width / f) e in
+      narrowed-sound (leastLocated f) p (omega (arith, i .high, l .0)) (omega (arith, i .high, l .1))
 
   -- The induction: what holds of a screen, and passes on to a narrowed one that is not small, holds where the loop
   -- ends well; and that is not thin.
@@ -115,10 +126,11 @@ module _ (f : ℕ) (i : FactorIn f) where
 
   -- where the loop ends well, the last screen is sound and not thin
   pub last-sound : (h w : ℕ) (planes : List Float) → FitPlanes (leastLocated f) h w planes → lastOf f h w planes .tooSmall ≡ false
-      → Sound f h w (length planes) (lastOf f h w planes .stage)
+      → Sound (leastLocated f) h w (length planes) (lastOf f h w planes .stage)
       × (thin (lastOf f h w planes .stage .height) (lastOf f h w planes .stage .width) (boundsAt (lastOf f h w planes .stage)) ≡ false)
   unfolding lastOf
-  last-sound h w planes p e = ends-well (Sound f h w (length planes)) (λ s q r. sound-next q r) h (first h w planes) (sound-first p) e
+  last-sound h w planes p e =
+      ends-well (Sound (leastLocated f) h w (length planes)) (λ s q r. sound-large q r) h (first h w planes) (sound-first p) e
 
   -- ---- the code's loop
   module _ {h w : ℕ} {start : List Float} {s : Stage} (g : Going f h w start s) where
@@ -150,29 +162,72 @@ module _ (f : ℕ) (i : FactorIn f) where
               let less = div-lt-self {n = s .height} {k = f} (omega (arith, g .sound .fit .sides .low-h)) (omega (arith, i .low)) in
               omega (arith, g .enough, some .1, less);
           counted = omega (arith, g .counted, some .1);
-          sound = sound-next (g .sound) q;
+          sound = sound-large (g .sound) q;
         }
 
     -- what the code hands back on each way out
-    pub narrows-end : {b : Bounds} → b ≡ boundsAt s → thin (s .height) (s .width) b ≡ false
-        → Narrows (lastOf f h w start)
-        (record { height = s .height; width = s .width; narrowed = s .narrowed; small = false; bounds = b }) (s .planes)
-    narrows-end e p =
-        let q = going-end (rw e at p) in
-        record { height-is = rw q; width-is = rw q; narrowed-is = rw q; small-is = rw q; planes-are = rw q; bounds-are = λ z. rw q e }
+    pub narrows-end : {b : Bounds} {bytes : List ℕ} → Looks (s .height) (s .width) (s .planes) b bytes
+        → thin (s .height) (s .width) b ≡ false
+        → Narrows h w (lastOf f h w start)
+        (record { height = s .height; width = s .width; narrowed = s .narrowed; small = false; bounds = b }) (s .planes) bytes
+    narrows-end l p =
+        let q = going-end (rw (l .bounds-are) at p) in
+        let sides = g .sound .fit .sides in
+        record {
+          height-is = rw q;
+          width-is = rw q;
+          narrowed-is = rw q;
+          small-is = rw q;
+          planes-are = rw q;
+          low-h = omega (arith, sides .low-h);
+          low-w = omega (arith, sides .low-w);
+          area = g .sound .area;
+          looks = rw q l;
+        }
 
-    pub narrows-small : {b : Bounds} {after : List Float} → thin (s .height) (s .width) (boundsAt s) ≡ true
+    pub narrows-small : {b : Bounds} {bytes : List ℕ} → thin (s .height) (s .width) (boundsAt s) ≡ true
         → small (s .height / f) (s .width / f) ≡ true
-        → after ≡ narrow f (s .height) (s .width) (s .planes)
-        → Narrows (lastOf f h w start)
-        (record { height = s .height / f; width = s .width / f; narrowed = s .narrowed + 1; small = true; bounds = b }) after
+        → let t = next f s in
+        Looks (t .height) (t .width) (t .planes) b bytes
+        → Narrows h w (lastOf f h w start)
+        (record { height = t .height; width = t .width; narrowed = t .narrowed; small = true; bounds = b }) (t .planes) bytes
     narrows-small p q l =
         let e = going-small p q in
+        let t = sound-next (g .sound) in
         record {
           height-is = rw e;
           width-is = rw e;
           narrowed-is = rw e;
           small-is = rw e;
-          planes-are = rw e l;
-          bounds-are = λ z. absurd (true≢false z);
+          planes-are = rw e;
+          low-h = t .fit .sides .low-h;
+          low-w = t .fit .sides .low-w;
+          area = t .area;
+          looks = rw e l;
         }
+
+-- ---- the last picture's edges, where they are copied from the bytes
+
+module _ {h w : ℕ} {last : Last} {r : Narrowed} {planes : List Float} {bytes : List ℕ} (n : Narrows h w last r planes bytes) where
+  -- there is room for them wherever there is room for the first picture
+  pub points-fit : (r .height - 2) * (r .width - 2) ≤ h * w
+  points-fit = omega (arith, inner-le (r .height) (r .width), n .area)
+
+  pub narrows-copied : {lent out : List ℕ} → AtFront (take ((r .height - 2) * (r .width - 2)) bytes) lent out
+      → Narrows h w last r planes out × AtFront (edgesAt (last .stage)) lent out
+  narrows-copied x =
+      let s = last .stage in
+      let front = rw (n .height-is, n .width-is, n .looks .bytes-are) at x in (
+        record {
+          height-is = n .height-is;
+          width-is = n .width-is;
+          narrowed-is = n .narrowed-is;
+          small-is = n .small-is;
+          planes-are = n .planes-are;
+          low-h = n .low-h;
+          low-w = n .low-w;
+          area = n .area;
+          looks = record { bounds-are = n .looks .bounds-are; bytes-are = edges-part (s .height) (s .width) (s .planes) front };
+        },
+        front,
+      )

@@ -1,12 +1,13 @@
-// The loop of narrowings (01, "Locating", first paragraph; 02, R-1): a screen is narrowed until both spans of its bounds are
+// The loop of narrowings (01, "Locating", first paragraph; 02, R-1 and R-3): a screen is narrowed until both spans of its bounds are
 // large enough, or until it is too small. Definitions: specs/Loop. Laws for callers: proofs/Turns.
 ghost use mathlib.Core.Path.{_≡_};
 ghost use Prim.Native.Nat.{_*_, _≤_};
 ghost use lib.ListN.{length};
+ghost use Rattle.lists.specs.Front.{AtFront};
 ghost use Rattle.board.specs.Board.{leastPlaneSide, leastLocated};
 ghost use Rattle.board.specs.Inner.{FactorIn, FitPlanes};
 ghost use Rattle.narrowings.specs.Loop as Spec;
-ghost use Rattle.narrowings.specs.Loop.{first, boundsAt, lastOf};
+ghost use Rattle.narrowings.specs.Loop.{edgesAt, lastOf};
 ghost use Rattle.narrowings.specs.Inner.{Looks, Narrows};
 use board::Bounds;
 
@@ -36,7 +37,7 @@ fn small(height: usize, width: usize) -> bool
 }
 
 // Gradient, edges and bounds of a screen. The gradients go into `scratch`, the edge picture to the front of `edges`.
-pub fn look(
+fn look(
     height: usize,
     width: usize,
     planes: &[f32],
@@ -45,7 +46,7 @@ pub fn look(
 ) -> Bounds
     requires { ⌜ FitPlanes leastPlaneSide height width (now planes) ⌝ }
     requires { ⌜ (height * width ≤ length (now scratch)) × (height * width ≤ length (now edges)) ⌝ }
-    ensures { λ r. ⌜ Looks (first height width (now (planes .entry))) (now (edges .entry)) r (now (edges .exit)) ⌝ }
+    ensures { λ r. ⌜ Looks height width (now (planes .entry)) r (now (edges .exit)) ⌝ }
 {
     gradient::gradient_of(height, width, planes, scratch);
     let row = height - 2;
@@ -56,7 +57,7 @@ pub fn look(
 }
 
 // Where the loop ends: the sides of the last picture, how often the screen was narrowed, whether it got too small, and the bounds of that
-// picture otherwise.
+// picture.
 pub struct Narrowed {
     pub height: usize,
     pub width: usize,
@@ -65,30 +66,34 @@ pub struct Narrowed {
     pub bounds: Bounds,
 }
 
-// Narrows the screen by the factor until both spans of its bounds are large enough. `start` are the bounds of the screen as it is.
-pub fn narrow_on(
+// Narrows the screen by the factor until both spans of its bounds are large enough, or until it is too small. `start` are the bounds of
+// the screen as it is, whose edge picture stands at the front of `bytes`; afterwards that of the last picture stands there.
+fn narrow_on(
     factor: usize,
     height: usize,
     width: usize,
     start: Bounds,
     planes: &mut [f32],
-    scratch_f32: &mut [f32],
-    scratch_u8: &mut [u8],
+    scratch: &mut [f32],
+    bytes: &mut [u8],
 ) -> Narrowed
     requires { ⌜ FactorIn factor × FitPlanes (leastLocated factor) height width (now planes)
-        × (start ≡ boundsAt (first height width (now planes))) ⌝ }
-    requires { ⌜ (height * width ≤ length (now «scratch_f32»)) × (height * width ≤ length (now «scratch_u8»)) ⌝ }
-    ensures { λ r. ⌜ Narrows (lastOf factor height width (now (planes .entry))) r (now (planes .exit)) ⌝ }
+        × Looks height width (now planes) start (now bytes) ⌝ }
+    requires { ⌜ (height * width ≤ length (now scratch)) × (height * width ≤ length (now bytes)) ⌝ }
+    ensures { λ r.
+        let last = lastOf factor height width (now (planes .entry)) in
+        ⌜ Narrows height width last r (now (planes .exit)) (now (bytes .exit)) ⌝ }
 {
     let mut h = height;
     let mut w = width;
     let mut b = start;
     let mut n: u32 = 0;
     while thin(h, w, b) {
-        narrow::narrow(factor, h, w, planes, scratch_f32);
+        narrow::narrow(factor, h, w, planes, scratch);
         h = h / factor;
         w = w / factor;
         n = n + 1;
+        b = look(h, w, planes, scratch, bytes);
         if small(h, w) {
             return Narrowed {
                 height: h,
@@ -98,7 +103,6 @@ pub fn narrow_on(
                 bounds: b,
             };
         }
-        b = look(h, w, planes, scratch_f32, scratch_u8);
     }
     Narrowed {
         height: h,
@@ -107,4 +111,30 @@ pub fn narrow_on(
         small: false,
         bounds: b,
     }
+}
+
+// The last picture. Its edge picture goes to the front of `edges`, which nothing else is written to: until the loop has ended, edge
+// pictures stand in `bytes`.
+pub fn last_picture(
+    factor: usize,
+    height: usize,
+    width: usize,
+    planes: &mut [f32],
+    edges: &mut [u8],
+    scratch: &mut [f32],
+    bytes: &mut [u8],
+) -> Narrowed
+    requires { ⌜ FactorIn factor × FitPlanes (leastLocated factor) height width (now planes) ⌝ }
+    requires { ⌜ (height * width ≤ length (now edges)) × (height * width ≤ length (now scratch))
+        × (height * width ≤ length (now bytes)) ⌝ }
+    ensures { λ r.
+        let last = lastOf factor height width (now (planes .entry)) in
+        ⌜ Narrows height width last r (now (planes .exit)) (now (edges .exit))
+        × AtFront (edgesAt (last .stage)) (now (edges .entry)) (now (edges .exit)) ⌝ }
+{
+    let start = look(height, width, planes, scratch, bytes);
+    let l = narrow_on(factor, height, width, start, planes, scratch, bytes);
+    let n = (l.height - 2) * (l.width - 2);
+    lists::copy_u8(bytes, n, edges);
+    l
 }

@@ -4,7 +4,7 @@
 use super::load::{numbers, planes, record};
 use super::probe::{Seen, OWN_FACTOR};
 use super::probed::{self, Ran};
-use super::ImageBoard;
+use super::{steps, ImageBoard};
 use crate::quiet::caught;
 use crate::record::Record;
 
@@ -17,18 +17,22 @@ pub struct Traced {
     pub record: Record,
     pub planes: Vec<f32>,
     pub seen: Seen,
+    /// Of a screen that is narrowed and not too small, with the factor of the unchanged file: the
+    /// bounds that this widens to.
+    pub unchanged: Option<[usize; 4]>,
 }
 
-/// Runs the copy, and with its own factor the unchanged file, which must do the same; an error says how
-/// they do not, or that the Rust panics before the scores.
+/// Runs the copy, and with its own factor the unchanged file, which must do as docs/DIFFERENCES.md says;
+/// an error says how they do not, or that the Rust panics before the scores.
 pub fn traced(pixels: &[u8], height: usize, width: usize, factor: usize) -> Result<Traced, String> {
     let ran = probed::locate(numbers(pixels), height, width, factor);
-    if factor == OWN_FACTOR {
-        as_unchanged(pixels, height, width, &ran)?;
-    }
     let answer = answer_of(&ran).ok_or("the Rust panics before the scores")?;
+    let mut unchanged = None;
+    if factor == OWN_FACTOR {
+        unchanged = beside_unchanged(pixels, height, width, &ran)?;
+    }
     let Ran { seen, whole, record, planes } = ran;
-    Ok(Traced { answer, whole, record, planes, seen })
+    Ok(Traced { answer, whole, record, planes, seen, unchanged })
 }
 
 /// 01's number for how a run ended: panics are 6 and 8, pitches 0.0 are 7 and 9, a quiet return is 5. A
@@ -44,16 +48,45 @@ pub fn answer_of(ran: &Ran) -> Option<u32> {
     }
 }
 
-/// The unchanged file leaves what the copy left.
-fn as_unchanged(pixels: &[u8], height: usize, width: usize, ran: &Ran) -> Result<(), String> {
+/// The unchanged file leaves what the copy left. Where the screen was narrowed and did not get too small,
+/// this is so of the sides and the planes; the rest is what the first edge picture gives with the last
+/// bounds. Hands back what these are widened to there.
+fn beside_unchanged(
+    pixels: &[u8],
+    height: usize,
+    width: usize,
+    ran: &Ran,
+) -> Result<Option<[usize; 4]>, String> {
     let mut board = ImageBoard::new(numbers(pixels), height, width);
     let whole = caught(|| board.get_pos_pixel()).is_some();
     let own = record(&board);
-    let same = planes(&board).map(f32::to_bits).eq(ran.planes.iter().map(|x| x.to_bits()));
-    if (whole, own) != (ran.whole, ran.record) || !same {
-        return Err(format!("the probed copy differs: {own:?}, {:?}", ran.record));
+    let mut wanted = (ran.whole, ran.record);
+    let mut widened = None;
+    if let (true, Some(bounds)) = (ran.seen.narrowed > 0, ran.seen.scanned) {
+        let fresh = ImageBoard::new(numbers(pixels), height, width);
+        let first = steps::edges(&fresh.get_gradient());
+        let seen = probed::widen(&first, [ran.record.height, ran.record.width].map(|s| s - 2), bounds);
+        widened = seen.widened;
+        wanted = from_first(&ran.record, &seen);
     }
-    Ok(())
+    let same = planes(&board).map(f32::to_bits).eq(ran.planes.iter().map(|x| x.to_bits()));
+    if (whole, own) != wanted || !same {
+        return Err(format!("the unchanged file leaves {own:?} and not {wanted:?}, planes {same}"));
+    }
+    Ok(widened)
+}
+
+/// Whether a run with these bounds and scores returns, and its record then.
+fn from_first(sides: &Record, seen: &Seen) -> (bool, Record) {
+    let fresh = Record { height: sides.height, width: sides.width, ..Record::default() };
+    let (columns, rows) = seen.scores.clone().expect("scores are stored");
+    let read = caught(|| (steps::line(columns), steps::line(rows)));
+    let Some(((pixelc, c0, c), (pixelr, r0, r))) = read else {
+        return (false, fresh);
+    };
+    let [r_1, _, c_1, _] = seen.widened.expect("widened bounds are stored");
+    let (pixelr, pixelc) = (pixelr.to_bits(), pixelc.to_bits());
+    (true, Record { r_1, c_1, r0, c0, r, c, pixelr, pixelc, ..fresh })
 }
 
 impl Traced {

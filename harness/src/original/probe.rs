@@ -10,10 +10,11 @@ pub const OWN_FACTOR: usize = 3;
 /// Locals of one run of the probed copy, as far as it came.
 #[derive(Clone, Debug, Default)]
 pub struct Seen {
-    /// The first edge picture.
+    /// The edge picture of the last picture.
     pub edges: Points,
     pub narrowed: usize,
-    /// r_1, r_2, c_1, c_2 after widening.
+    /// Its bounds r_1, r_2, c_1, c_2, and after widening.
+    pub scanned: Option<[usize; 4]>,
     pub widened: Option<[usize; 4]>,
     pub scores: Option<(Vec<usize>, Vec<usize>)>,
     /// The pitch of the columns, once they are read.
@@ -51,8 +52,12 @@ pub fn factor() -> usize {
     FACTOR.get()
 }
 
-pub fn first(edges: &Points) {
+pub fn picture(edges: &Points) {
     SEEN.with_borrow_mut(|seen| seen.edges = edges.clone());
+}
+
+pub fn scanned(bounds: [usize; 4]) {
+    SEEN.with_borrow_mut(|seen| seen.scanned = Some(bounds));
 }
 
 pub fn narrowed() {

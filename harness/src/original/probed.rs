@@ -1,4 +1,4 @@
-//! The Rust original with lines added and one changed (build.rs), and runs of it.
+//! The Rust original with lines added and some changed (build.rs), and runs of it.
 
 include!(env!("FOLGUTAN_OBR_PROBED"));
 
@@ -27,8 +27,8 @@ pub fn locate(numbers: Vec<usize>, height: usize, width: usize, factor: usize) -
     Ran { seen: probe::take(), whole, record, planes }
 }
 
-/// The widened bounds and both score lists for an edge picture, its sides (or those of a narrowed
-/// picture) and bounds.
+/// The widened bounds and both score lists for an edge picture, its sides (or those of a smaller picture)
+/// and bounds.
 pub fn widen(edges: &Points, sides: [usize; 2], bounds: [usize; 4]) -> Seen {
     let [row, column] = sides;
     let [r_1, r_2, c_1, c_2] = bounds;

@@ -7,14 +7,14 @@ use lib.ListN.{take}
 use Rattle.board.specs.declared.Bounds.{Bounds}
 use Rattle.axes.proofs.Scoring.{across-fit, down-fit, quarters-fit}
 use Rattle.strips.specs.Inner.{Scorable}
-use Rattle.locate.proofs.Leading.{picture-length, rows-in, scorable, room-for}
+use Rattle.locate.proofs.Leading.{picture-length, scorable, room-for}
 use borrow.Author.Needs.{needs}
 use Rattle.locate.proofs.read_from.Statement.{statement}
 use Rattle.locate.proofs.read_from.Tie as tie
 
 -- the places that the others follow
 abbrev at-start : tie.After-widen → tie.Start
-at-start c = c .before .before .before .before .before .before .before .before .before .before
+at-start c = c .before .before .before .before .before .before .before .before
 
 abbrev at-widen : tie.After-read-axes → tie.After-widen
 at-widen c = c .before .before .before .before .before
@@ -22,18 +22,18 @@ at-widen c = c .before .before .before .before .before
 -- the picture that was handed in can be scored over these bounds
 abbrev ScorableOn : tie.Start → Bounds → Type 0
 ScorableOn s bounds =
-    let b = s .args .b in
-    Scorable (take ((b .height - 2) * (b .width - 2)) (now (s .args .edges))) (b .width - 2) bounds
+    let l = s .args .l in
+    Scorable (take ((l .height - 2) * (l .width - 2)) (now (s .args .edges))) (l .width - 2) bounds
 
 -- so it can over the widened ones, and both lists be read
 can-score : (c : tie.After-widen) → ScorableOn (at-start c) (c .widen .result)
 can-score c = subst (ScorableOn (at-start c)) (sym (c .widen .ensures)) (scorable (at-start c .pre))
 
-sub-stride : tie.Need-sub-stride
-sub-stride c = search needs
+sub-row : tie.Need-sub-row
+sub-row c = search needs
 
-sub-n : tie.Need-sub-n
-sub-n c = search needs
+sub-column : tie.Need-sub-column
+sub-column c = search needs
 
 mul-n : tie.Need-mul-n
 mul-n c = search needs
@@ -41,21 +41,15 @@ mul-n c = search needs
 slice-aggregate-widen : tie.Need-slice-aggregate-widen
 slice-aggregate-widen c = sym (picture-length (c .before .before .before .before .before .before .before .pre))
 
-sub-widen : tie.Need-sub-widen
-sub-widen c = search needs
-
-sub-widen-2 : tie.Need-sub-widen-2
-sub-widen-2 c = search needs
-
 widen-requires : tie.Need-widen-requires
 widen-requires c κs =
-    let g = c .before .before .before .before .before .before .before .before .before .pre in (
+    let g = c .before .before .before .before .before .before .before .pre in (
       omega (arith, g .low-h),
-      omega (arith, g .high-h, g .high),
+      omega (arith, g .high-h),
       omega (arith, g .low-w),
-      omega (arith, g .high-w, g .wide),
       omega (arith, g .high-w),
-      rows-in g,
+      omega arith,
+      omega (arith, picture-length g),
       g .within,
     )
 
@@ -103,12 +97,10 @@ pub read-from-spec : {M : Type 1} → statement M
 read-from-spec =
     tie.close
     (tie.spec
-    sub-stride
-    sub-n
+    sub-row
+    sub-column
     mul-n
     slice-aggregate-widen
-    sub-widen
-    sub-widen-2
     widen-requires
     slice-aggregate-read-axes
     read-axes-requires

@@ -132,7 +132,7 @@ returns c =
     record {
       bounds-are = c .get-r12c12 .ensures
           ∙ ap (λ (bytes : List ℕ). boundsOf (points (width g - 2) 1 bytes) (height g - 2) (width g - 2)) (part e);
-      bytes-are = edges-are e;
+      bytes-are = part e;
     }
 
 pub look-spec : {M : Type 1} → statement M

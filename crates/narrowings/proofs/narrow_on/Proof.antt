@@ -1,4 +1,5 @@
--- `narrowings::narrow_on` meets its contract. The invariant: the loop from the start is the loop from here. The height falls.
+-- `narrowings::narrow_on` meets its contract. The invariant: the loop from the start is the loop from here, and the bytes hold the edge
+-- picture of the screen as it is. The height falls.
 use Prim.Native.Nat.{_/_}
 use mathlib.Core.Path.{_≡_, refl, sym, _∙_}
 use mathlib.Core.Bool.{true, false}
@@ -6,11 +7,12 @@ use native.Mathlib.Nat.{div-lt-self}
 use native.Mathlib.Omega.{arith}
 use denote.Ref.{now}
 use lib.ListN.{length}
-use Rattle.board.specs.Board.{leastPlaneSide}
+use Rattle.board.specs.Board.{leastPlaneSide, leastLocated}
 use Rattle.board.specs.Inner.{FactorIn}
 use Rattle.board.proofs.Planes.{fit-lower}
-use Rattle.narrowings.specs.Loop.{Stage, staged, boundsAt, thin, small}
-use Rattle.narrowings.proofs.Turns.{Going, Sound, four, going-first, going-on, sound-next, ordered, narrows-end, narrows-small}
+use Rattle.narrowings.specs.Loop.{Stage, staged, boundsAt, thin, small, next}
+use Rattle.narrowings.specs.Inner.{Looks}
+use Rattle.narrowings.proofs.Turns.{Going, Sound, going-first, going-on, sound-next, ordered, narrows-end, narrows-small}
 use borrow.Author.Needs.{needs}
 use Rattle.narrowings.proofs.narrow_on.Statement.{statement}
 use Rattle.narrowings.proofs.narrow_on.Tie as tie
@@ -18,7 +20,7 @@ use Rattle.narrowings.proofs.narrow_on.Tie as tie
 abbrev Inv-loop : tie.InvT-loop
 Inv-loop f height width planes₀ f32₀ u8₀ h₀ w₀ b₀ n₀ planes f32 u8 h w b n =
     Going f height width planes₀ (staged h w planes n)
-    × (b ≡ boundsAt (staged h w planes n))
+    × Looks h w planes b u8
     × (length f32 ≡ length f32₀)
     × (length u8 ≡ length u8₀)
 
@@ -32,8 +34,11 @@ at-start c = c .before .before .before .before
 abbrev at-loop : tie.After-narrow Inv-loop μ-loop → tie.At-loop Inv-loop μ-loop
 at-loop c = c .before .before .before .before .before
 
-abbrev at-narrow : tie.After-small Inv-loop μ-loop → tie.After-narrow Inv-loop μ-loop
-at-narrow c = c .before .before .before .before .before
+abbrev at-narrow : tie.After-look Inv-loop μ-loop → tie.After-narrow Inv-loop μ-loop
+at-narrow c = c .before .before .before .before .before .before .before .before
+
+abbrev at-look : tie.After-small Inv-loop μ-loop → tie.After-look Inv-loop μ-loop
+at-look c = c .before .before .before .before .before
 
 -- after a narrowing: the screen before it, what holds of it, and what was asked at the start
 abbrev begun : tie.After-narrow Inv-loop μ-loop → tie.Start Inv-loop μ-loop
@@ -46,16 +51,26 @@ asked : (c : tie.After-narrow Inv-loop μ-loop) → FactorIn (begun c .args .fac
 asked c = begun c .pre .0 .0
 
 sound : (c : tie.After-narrow Inv-loop μ-loop) → let a = begun c .args in
-    Sound (a .factor) (a .height) (a .width) (length (now (a .planes))) (here c)
+    Sound (leastLocated (a .factor)) (a .height) (a .width) (length (now (a .planes))) (here c)
 sound c = at-loop c .loop .inv .0 .sound
 
 is-thin : (c : tie.After-narrow Inv-loop μ-loop) → thin (here c .height) (here c .width) (boundsAt (here c)) ≡ true
 is-thin c =
     let test = c .before .before .before in
-    rw (at-loop c .loop .inv .1) at (sym (test .before .thin .ensures) ∙ test .if1 .taken)
+    rw (at-loop c .loop .inv .1 .bounds-are) at (sym (test .before .thin .ensures) ∙ test .if1 .taken)
+
+-- the narrowed screen, whose edge picture the look leaves in the bytes
+sound-now : (c : tie.After-narrow Inv-loop μ-loop) → let a = begun c .args in
+    Sound leastPlaneSide (a .height) (a .width) (length (now (a .planes))) (next (a .factor) (here c))
+sound-now c = sound-next _ (asked c) (sound c)
+
+looks : (c : tie.After-look Inv-loop μ-loop) → let m = at-narrow c in
+    let s = next (begun m .args .factor) (here m) in
+    Looks (s .height) (s .width) (s .planes) (c .look .result) (c .look .last .1 .1 .1 .1 .0)
+looks c = rw (at-narrow c .narrow .ensures .0) at (c .look .ensures)
 
 -- not too small, so that the loop goes on
-goes-on : (c : tie.Else2 Inv-loop μ-loop) → let m = at-narrow (c .before) in
+goes-on : (c : tie.Else2 Inv-loop μ-loop) → let m = at-narrow (at-look (c .before)) in
     let f = begun m .args .factor in
     small (here m .height / f) (here m .width / f) ≡ false
 goes-on c = sym (c .before .small .ensures) ∙ c .if2 .left
@@ -67,8 +82,9 @@ thin-requires : tie.Need-thin-requires Inv-loop μ-loop
 thin-requires c κs =
     let inv = c .loop .inv in
     let s = inv .0 .sound in
-    let o = ordered s in
-    (omega (arith, s .fit .sides .low-h), omega (arith, s .fit .sides .low-w), rw (inv .1) (o .0), rw (inv .1) (o .1))
+    let o = ordered (omega arith) s in
+    let e = inv .1 .bounds-are in
+    (omega (arith, s .fit .sides .low-h), omega (arith, s .fit .sides .low-w), rw e (o .0), rw e (o .1))
 
 narrow-requires : tie.Need-narrow-requires Inv-loop μ-loop
 narrow-requires c κs =
@@ -88,11 +104,20 @@ add-n c =
     let at = c .before .before .before .before .before .before .before .before .before in
     omega (arith, at .loop .inv .0 .counted, at-start at .pre .0 .1 .sides .high-h)
 
+look-requires : tie.Need-look-requires Inv-loop μ-loop
+look-requires c κs =
+    let m = c .before .before .before .before .before .before .before in
+    let s = sound-now m in
+    let inv = at-loop m .loop .inv in
+    let ask = begun m .pre .1 in (
+      rw (m .narrow .ensures .0) (s .fit),
+      (omega (arith, s .area, inv .2, ask .0), omega (arith, s .area, inv .3, ask .1)),
+    )
+
 small-requires : tie.Need-small-requires Inv-loop μ-loop
 small-requires c κs =
-    let m = c .before .before .before .before in
-    let l = four _ (asked m) (sound m) in
-    (omega (arith, l .0), omega (arith, l .1))
+    let s = sound-now (at-narrow (c .before .before .before .before)) .fit .sides in
+    (omega (arith, s .low-h), omega (arith, s .low-w))
 
 same-length : tie.Need-same-length Inv-loop μ-loop
 same-length c = search needs
@@ -105,34 +130,23 @@ same-length-3 c = search needs
 
 returns : tie.Need-returns Inv-loop μ-loop
 returns c =
-    let m = at-narrow (c .before) in
-    narrows-small _ (asked m) (at-loop m .loop .inv .0) (is-thin m) (sym (c .before .small .ensures) ∙ c .if2 .taken)
-    (m .narrow .ensures .0)
-
-look-requires : tie.Need-look-requires Inv-loop μ-loop
-look-requires c κs =
-    let other = c .before .before .before in
-    let m = at-narrow (other .before) in
-    let next-is = sound-next _ (asked m) (sound m) (goes-on other) in
-    let inv = at-loop m .loop .inv in
-    let ask = begun m .pre .1 in (
-      rw (m .narrow .ensures .0) (fit-lower leastPlaneSide (omega arith) (next-is .fit)),
-      (omega (arith, next-is .area, inv .2, ask .0), omega (arith, next-is .area, inv .3, ask .1)),
-    )
+    let l = at-look (c .before) in
+    let m = at-narrow l in
+    rw (m .narrow .ensures .0)
+    (narrows-small _ (asked m) (at-loop m .loop .inv .0) (is-thin m) (sym (c .before .small .ensures) ∙ c .if2 .taken) (looks l))
 
 loop-less : tie.Need-loop-less Inv-loop μ-loop
 loop-less c =
-    let m = at-narrow (c .before .before .before .before .before .before .before .before .before) in
+    let m = at-narrow (at-look (c .before)) in
     div-lt-self (omega (arith, sound m .fit .sides .low-h)) (omega (arith, asked m .low))
 
 loop-again : tie.Need-loop-again Inv-loop μ-loop
 loop-again c =
-    let other = c .before .before .before .before .before .before .before .before in
-    let m = at-narrow (other .before) in
-    let inv = at-loop m .loop .inv in
-    let e = m .narrow .ensures .0 in (
-      rw e (going-on _ (asked m) (inv .0) (is-thin m) (goes-on other)),
-      c .before .before .before .before .look .ensures .bounds-are,
+    let l = at-look (c .before) in
+    let m = at-narrow l in
+    let inv = at-loop m .loop .inv in (
+      rw (m .narrow .ensures .0) (going-on _ (asked m) (inv .0) (is-thin m) (goes-on c)),
+      l .look .ensures,
       omega (arith, inv .2),
       omega (arith, inv .3),
     )
@@ -163,12 +177,12 @@ narrow-on-spec =
     div-h
     div-w
     add-n
+    look-requires
     small-requires
     same-length
     same-length-2
     same-length-3
     returns
-    look-requires
     loop-less
     loop-again
     same-length-4
