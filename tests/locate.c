@@ -290,6 +290,77 @@ static void smallest_loaded(size_t factor)
     drop(l);
 }
 
+static int rising(const void *a, const void *b)
+{
+    float x = *(const float *)a, y = *(const float *)b;
+    return (x > y) - (x < y);
+}
+
+/* The edge picture by the rule (01, Gradient and threshold), over the library's gradient. */
+static uint8_t *edges_of(const float *values, size_t height, size_t width)
+{
+    size_t row = height - 2, column = width - 2, m = 0;
+    float *gradient = memory(row * column, sizeof *gradient);
+    float *sample = memory(row * column, sizeof *sample);
+    uint8_t *edges = memory(row * column, 1);
+    folgutan_gradient(height, width, values, 3 * height * width, gradient, row * column);
+    for (size_t i = row / 4; i < row * 3 / 4; i++)
+        for (size_t j = column / 4; j < column * 3 / 4; j++)
+            sample[m++] = gradient[i * column + j];
+    qsort(sample, m, sizeof *sample, rising);
+    float threshold = sample[(size_t)((float)m * 0.55f)];
+    threshold = threshold > 1.0f ? 1.0f : threshold < 0.01f ? 0.01f : threshold;
+    for (size_t at = 0; at < row * column; at++)
+        edges[at] = gradient[at] >= threshold;
+    free(gradient);
+    free(sample);
+    return edges;
+}
+
+/* The edge slice starts with the edge picture of the planes as they are left, and is as before
+ * behind it; so is the score slice behind so many scores. */
+static void edges_left(const char *where, left l, call c, size_t scores)
+{
+    size_t h = l.located.board.height, w = l.located.board.width, points = (h - 2) * (w - 2);
+    uint8_t *edges = edges_of(l.planes.at, h, w);
+    check(memcmp(l.edges, edges, points) == 0, where, "edge picture of the planes left");
+    check(rest_kept(l, c, points, scores), where, "entries further on");
+    free(edges);
+}
+
+/* Left half black, right half white, or all black: too small after one narrowing, with the edge
+ * picture of the narrowed screen. The first picture has 1 in the columns of the step alone. */
+static const struct halves {
+    size_t factor, side;
+    uint8_t right, edges[16];
+} halves[] = {
+    {3, 12, 255, {1, 1, 1, 1}},
+    {2, 12, 255, {0, 1, 1, 0, 0, 1, 1, 0, 0, 1, 1, 0, 0, 1, 1, 0}},
+    {4, 16, 255, {1, 1, 1, 1}},
+    {5, 20, 255, {1, 1, 1, 1}},
+    {3, 12, 0, {0, 0, 0, 0}},
+};
+
+static void halved(struct halves e)
+{
+    char where[120];
+    snprintf(where, sizeof where, "locate of halves 0 and %d, side %zu, factor %zu", e.right,
+             e.side, e.factor);
+    size_t area = e.side * e.side, narrowed = e.side / e.factor;
+    float *values = memory(3 * area, sizeof *values);
+    for (size_t at = 0; at < 3 * area; at++)
+        values[at] = at % e.side < e.side / 2 ? 0.0f : (float)e.right / 255.0f;
+    call c = fitting(e.factor, e.side, e.side);
+    left l = locate(values, e.side, e.side, c);
+    check(l.located.answer == FOLGUTAN_TOO_SMALL && l.located.narrowed == 1
+              && l.located.board.height == narrowed && l.located.board.width == narrowed,
+          where, "too small after one narrowing");
+    check(memcmp(l.edges, e.edges, (narrowed - 2) * (narrowed - 2)) == 0, where, "edge picture");
+    edges_left(where, l, c, 0);
+    drop(l);
+    free(values);
+}
+
 /* Screens of one colour: how often they are narrowed before they are too small, and the sides that
  * are left. A side of 67 * factor is the least that is narrowed twice; the first side of each factor
  * is the least that is taken. Slices are longer than asked for by `more`. */
@@ -316,7 +387,7 @@ static void too_small(struct blank b)
     char where[120];
     snprintf(where, sizeof where, "locate of one colour, sides %zu and %zu, factor %zu", b.height,
              b.width, b.factor);
-    size_t area = b.height * b.width, points = (b.height - 2) * (b.width - 2);
+    size_t area = b.height * b.width, points = (b.h - 2) * (b.w - 2);
     float *values = memory(3 * area, sizeof *values);
     for (size_t at = 0; at < 3 * area; at++)
         values[at] = 0.25f;
@@ -416,6 +487,7 @@ static void narrowed_blocks(size_t factor, size_t rows, size_t columns)
     }
     check(planes, where, "middle bytes, then 0.0");
     check(kept(l.planes, all), where, "plane entries further on");
+    edges_left(where, l, c, 0);
     drop(l);
     free(values);
 }
@@ -447,15 +519,14 @@ static uint8_t level(drawn d, size_t row, size_t column)
     return i + d.rim >= d.down || j + d.rim >= d.across ? SHADE : FACE;
 }
 
-/* A screen: the board alone (times 1), or at the top left of one so many times as long and as wide,
- * under blocks of 11 by 11 points and a flat bar across, which the scan does not cross and a
- * narrowing by as much closes. */
+/* A screen: the board alone (times 1), or with so many points down and across for each of its own,
+ * and a flat bar across the middle, which the scan does not cross and a narrowing by as much closes. */
 typedef struct {
     drawn board;
     size_t times;
 } screen;
 
-enum { BLOCK = 11, BAR = 9 };
+enum { BAR = 9, BAR_LEVEL = 90 };
 
 static size_t height_of(screen s)
 {
@@ -472,11 +543,8 @@ static uint8_t point(screen s, size_t row, size_t column)
 {
     size_t bar = height_of(s) / 2 - BAR / 2;
     if (s.times > 1 && row >= bar && row < bar + BAR)
-        return 90;
-    if (row < s.board.height && column < s.board.width)
-        return level(s.board, row, column);
-    uint32_t block = (uint32_t)(row / BLOCK * 37 + column / BLOCK * 101);
-    return (uint8_t)(block * 2654435761u >> 24);
+        return BAR_LEVEL;
+    return level(s.board, row / s.times, column / s.times);
 }
 
 /* Three like planes. */
@@ -487,12 +555,6 @@ static float *draw(screen s)
     for (size_t at = 0; at < 3 * area; at++)
         values[at] = (float)point(s, at % area / width, at % area % width) / 255.0f;
     return values;
-}
-
-static int rising(const void *a, const void *b)
-{
-    float x = *(const float *)a, y = *(const float *)b;
-    return (x > y) - (x < y);
 }
 
 /* The planes narrowed once by the rule (02, R-1), then 0.0 up to their old length. */
@@ -513,27 +575,6 @@ static float *narrowed_once(const float *values, size_t height, size_t width, si
         out[at] = block[n / 2];
     }
     return out;
-}
-
-/* The edge picture by the rule (01, Gradient and threshold), over the library's gradient. */
-static uint8_t *edges_of(const float *values, size_t height, size_t width)
-{
-    size_t row = height - 2, column = width - 2, m = 0;
-    float *gradient = memory(row * column, sizeof *gradient);
-    float *sample = memory(row * column, sizeof *sample);
-    uint8_t *edges = memory(row * column, 1);
-    folgutan_gradient(height, width, values, 3 * height * width, gradient, row * column);
-    for (size_t i = row / 4; i < row * 3 / 4; i++)
-        for (size_t j = column / 4; j < column * 3 / 4; j++)
-            sample[m++] = gradient[i * column + j];
-    qsort(sample, m, sizeof *sample, rising);
-    float threshold = sample[(size_t)((float)m * 0.55f)];
-    threshold = threshold > 1.0f ? 1.0f : threshold < 0.01f ? 0.01f : threshold;
-    for (size_t at = 0; at < row * column; at++)
-        edges[at] = gradient[at] >= threshold;
-    free(gradient);
-    free(sample);
-    return edges;
 }
 
 /* One score by the rule (01, Path scores): the strip's lanes lie `lane` bytes apart, and a step goes
@@ -598,24 +639,21 @@ static void planes_left(const char *where, left l, const float *values, call c, 
     free(once);
 }
 
-/* What locating leaves in the slices: the planes, the first edge picture, both score lists between
- * the bounds, and all entries further on. */
+/* What locating leaves in the slices: the planes, their edge picture, both score lists between the
+ * bounds, and all entries further on. */
 static void left_behind(const char *where, left l, call c, const float *values, int narrowed,
                         bounds b)
 {
-    size_t column = c.board.width - 2, points = (c.board.height - 2) * column;
+    size_t column = l.located.board.width - 2;
     size_t across = b.c_2 - b.c_1, down = b.r_2 - b.r_1;
     planes_left(where, l, values, c, narrowed);
-    uint8_t *edges = edges_of(values, c.board.height, c.board.width);
-    check(memcmp(l.edges, edges, points) == 0, where, "edge picture");
+    edges_left(where, l, c, across + down);
     uint32_t *scores = memory(across + down, sizeof *scores);
-    const uint8_t *corner = edges + b.r_1 * column + b.c_1;
+    const uint8_t *corner = l.edges + b.r_1 * column + b.c_1;
     axis_scores(scores, corner, 1, column, down, across);
     axis_scores(scores + across, corner, column, 1, across, down);
     check(memcmp(l.scores, scores, (across + down) * sizeof *scores) == 0, where,
           "column scores, then row scores");
-    check(rest_kept(l, c, points, across + down), where, "entries further on");
-    free(edges);
     free(scores);
 }
 
@@ -645,9 +683,9 @@ static const struct unread {
      FOLGUTAN_ROWS_NO_GAP, FOLGUTAN_DONE, FOLGUTAN_NO_GAP},
     {"locate, rows too far", {{647, 60, 5, 4, 210, 12, 1}, 1}, {2, 636, 1, 53},
      FOLGUTAN_ROWS_TOO_FAR, FOLGUTAN_DONE, FOLGUTAN_TOO_FAR},
-    {"locate, narrowed, columns without a gap", {{80, 83, 1, 2, 12, 4, 0}, 3}, {0, 77, 1, 80},
+    {"locate, narrowed, columns without a gap", {{86, 89, 9, 7, 13, 4, 0}, 3}, {6, 75, 1, 86},
      FOLGUTAN_COLUMNS_NO_GAP, FOLGUTAN_NO_GAP, FOLGUTAN_DONE},
-    {"locate, narrowed, rows without a gap", {{80, 83, 1, 2, 4, 12, 0}, 3}, {0, 77, 1, 80},
+    {"locate, narrowed, rows without a gap", {{86, 89, 2, 7, 4, 11, 0}, 3}, {0, 82, 1, 85},
      FOLGUTAN_ROWS_NO_GAP, FOLGUTAN_DONE, FOLGUTAN_NO_GAP},
 };
 
@@ -681,14 +719,24 @@ static void reads_as(const char *where, folgutan_reading have, float pitch, size
           where, "a score list reads as locating read it");
 }
 
-/* Each cell is sampled in the middle. */
-static void cells_sampled(const char *where, folgutan_board b, const float *planes)
+/* Whether the bar covers most of the points that the middle of board row x is narrowed from. */
+static int barred(screen s, size_t x)
+{
+    size_t from = s.times * (s.board.top + x * s.board.down + s.board.down / 2);
+    size_t bar = height_of(s) / 2 - BAR / 2, covered = 0;
+    for (size_t row = from; row < from + s.times; row++)
+        covered += s.times > 1 && row >= bar && row < bar + BAR;
+    return 2 * covered > s.times;
+}
+
+/* Each cell is sampled in the middle, by the record and the planes as locating hands them back. */
+static void cells_sampled(const char *where, screen s, folgutan_board b, const float *planes)
 {
     size_t right = 0;
-    uint32_t face = bits_of((float)FACE / 255.0f);
     for (size_t x = 0; x < b.r; x++)
         for (size_t y = 0; y < b.c; y++) {
             float cell[3];
+            uint32_t face = bits_of((float)(barred(s, x) ? BAR_LEVEL : FACE) / 255.0f);
             uint32_t answer =
                 folgutan_sample(b, planes, 3 * b.height * b.width, x, y, 1, cell, 3);
             right += answer == FOLGUTAN_DONE && bits_of(cell[0]) == face
@@ -725,21 +773,16 @@ static void read_board(const char *name, screen s, size_t factor, bounds widened
     left_behind(where, l, c, values, s.times > 1, widened);
     reads_as(where, read_list(l.scores, across), b.pixelc, b.c0, b.c, have.votesc);
     reads_as(where, read_list(l.scores + across, down), b.pixelr, b.r0, b.r, have.votesr);
-    /* after a narrowing the record is not in pixels of the planes that are left */
-    if (s.times == 1)
-        cells_sampled(where, b, l.planes.at);
+    cells_sampled(where, s, b, l.planes.at);
     drop(l);
     free(values);
 }
 
-/* The same board, at the top left of a screen that is narrowed by each factor, and what its bounds
- * are widened to there. */
-static const bounds narrowed_to[] = {
-    [2] = {0, 77, 0, 79}, [3] = {0, 77, 1, 80}, [4] = {1, 77, 1, 79}, [5] = {0, 76, 0, 80}};
-
 void test_locate(void)
 {
     refusals();
+    for (size_t at = 0; at < COUNT(halves); at++)
+        halved(halves[at]);
     for (size_t at = 0; at < COUNT(blanks); at++)
         too_small(blanks[at]);
     for (size_t factor = LEAST; factor <= MOST; factor++) {
@@ -752,7 +795,8 @@ void test_locate(void)
                 unread_board(unread[at], factor);
         read_board("locate of a board", (screen){{60, 64, 7, 5, 12, 11, 2}, 1}, factor,
                    (bounds){4, 56, 2, 60});
-        read_board("locate of a board, narrowed", (screen){{80, 83, 1, 2, 12, 11, 0}, factor},
-                   factor, narrowed_to[factor]);
+        /* with a margin, which the widening goes out into by 1 to 4 points */
+        read_board("locate of a board, narrowed", (screen){{86, 89, 9, 7, 13, 11, 2}, factor},
+                   factor, (bounds){6, 75, 1, 85});
     }
 }

@@ -102,6 +102,12 @@ pub fn noisy(rng: &mut Rng, pixels: &mut [u8], by: i32) {
     }
 }
 
+/// Whether the place lies in a bar through the middle of the side.
+fn in_bar(at: usize, side: usize, thick: usize) -> bool {
+    let from = side / 2 - thick / 2;
+    (from..from + thick).contains(&at)
+}
+
 /// A screen that often takes as many narrowings by the factor as said, 1 at least, and is read then: a
 /// board that has small cells by then, and flat bars through the middle, which the first scan cannot
 /// cross. Around most boards lies a margin, which is flat unless all but the bars is noisy.
@@ -115,50 +121,39 @@ pub fn zoomed(
     let before = factor.pow(narrowings - 1);
     let scale = factor * before;
     let (down, right) = (rng.below(scale), rng.below(scale));
-    let most = (height.min(width) / scale / 4).clamp(8, 20);
-    let mut board = Drawn::filling(rng, height / scale, width / scale, 6, most);
+    let (h, w) = (height / scale, width / scale);
+    let mut board = Drawn::filling(rng, h, w, 6, (h.min(w) / 4).clamp(8, 20));
     if rng.below(4) == 0 {
         (board.top, board.left) = (0, 0);
         (board.rows, board.columns) = (height, width);
     }
     let by = rng.pick(&[0, 0, 1, 3]);
     let thick = rng.between(8 * before, 10 * before);
-    let (rows, columns) = rng.pick(&[(true, false), (false, true), (true, true)]);
-    let in_bar = |at: usize, side: usize| at + thick / 2 >= side / 2 && at + thick / 2 < side / 2 + thick;
+    let (across, upright) = rng.pick(&[(true, false), (false, true), (true, true)]);
     let mut pixels = painted(height, width, |i, j| {
         board.at((i + down) / scale, (j + right) / scale).unwrap_or(BACKGROUND)
     });
     noisy(rng, &mut pixels, by);
     for (at, pixel) in pixels.chunks_mut(4).enumerate() {
-        if (rows && in_bar(at / width, height)) || (columns && in_bar(at % width, width)) {
+        let (i, j) = (at / width, at % width);
+        if (across && in_bar(i, height, thick)) || (upright && in_bar(j, width, thick)) {
             pixel.copy_from_slice(&BAR);
         }
     }
     pixels
 }
 
-/// A screen that is narrowed and often read afterwards: coarse texture everywhere, a flat bar
-/// through the middle, which the first scan cannot cross, and a fine board at the top left. It often
-/// takes as many narrowings by the factor as said, 1 at least.
-pub fn textured(
-    rng: &mut Rng,
-    height: usize,
-    width: usize,
-    factor: usize,
-    narrowings: u32,
-) -> Vec<u8> {
-    let scale = factor.pow(narrowings - 1);
-    let block = if scale == 1 { rng.between(9, 15) } else { rng.between(9 * scale, 13 * scale) };
-    let thick = if scale == 1 { rng.between(7, 10) } else { rng.between(9 * scale, 13 * scale) };
+/// Coarse texture with flat bars through the middle, which the first scan cannot cross, so that it is
+/// narrowed. Mostly a board lies at the top left, in the place that its bounds have after a narrowing by
+/// the factor: who looks for them in the first edge picture finds that board.
+pub fn textured(rng: &mut Rng, height: usize, width: usize, factor: usize) -> Vec<u8> {
+    let (block, thick) = (rng.between(9, 15), rng.between(7, 10));
     let (across, down) = rng.pick(&[(true, false), (false, true), (true, true)]);
     let seed = rng.next();
-    let part = factor * scale;
-    let (h, w) = (height / part, width / part);
+    let (h, w) = (height / factor, width / factor);
     let mut board = Drawn::filling(rng, h, w, 7, (h.min(w) / 2).clamp(8, 40));
     board.top = rng.below(3);
     board.left = rng.below(3);
-    let in_bar =
-        |at: usize, side: usize| (side / 2 - thick / 2..side / 2 - thick / 2 + thick).contains(&at);
     let fine = rng.below(8) > 0;
     painted(height, width, |i, j| {
         if fine && i < h && j < w {
@@ -166,8 +161,8 @@ pub fn textured(
                 return pixel;
             }
         }
-        if (across && in_bar(i, height)) || (down && in_bar(j, width)) {
-            return [90, 90, 90, 255];
+        if (across && in_bar(i, height, thick)) || (down && in_bar(j, width, thick)) {
+            return BAR;
         }
         let mut own = Rng::new(seed ^ ((i / block) << 20 | (j / block)) as u64);
         own.word().to_le_bytes()

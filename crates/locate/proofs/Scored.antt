@@ -11,7 +11,7 @@ use Rattle.board.specs.Board.{leastLocated}
 use Rattle.board.specs.Inner.{FactorIn, FitPlanes}
 use Rattle.edges.proofs.Laws.{length-edges}
 use Rattle.bounds.proofs.Laws.{Wide, within, wide}
-use Rattle.narrowings.specs.Loop.{Stage, pictureAt, boundsAt, thin, lastOf}
+use Rattle.narrowings.specs.Loop.{Stage, boundsAt, thin, lastOf}
 use Rattle.narrowings.proofs.Turns.{Sound, spans, sound-around, last-sound}
 use Rattle.strips.specs.Strip.{columnScores, rowScores}
 use Rattle.locate.specs.Reference.{Reference, referenceOf}
@@ -47,7 +47,7 @@ module _ (f h w : ℕ) (planes : List Float) where
         let s = sound .fit .sides in
         let n = spans (l .height) (l .width) (boundsAt l) not-thin in
         let a = sound-around (omega arith) sound in
-        wide (pictureAt l) (omega (arith, s .low-h)) (omega (arith, s .low-w)) (within a) (n .0) (n .1)
+        wide _ (omega (arith, s .low-h)) (omega (arith, s .low-w)) (within a) (n .0) (n .1)
 
     pub scored : Scored (referenceOf f h w planes)
     unfolding referenceOf

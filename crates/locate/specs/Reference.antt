@@ -33,16 +33,17 @@ referenceOf f h w planes =
     let scored = last .stage in
     let row = scored .height - 2 in
     let column = scored .width - 2 in
-    let b = widen (pictureAt scored) row column (boundsAt scored) in
+    let E = pictureAt scored in
+    let b = widen E row column (boundsAt scored) in
     record {
       last = last;
       row = row;
       column = column;
       edges = edgesAt scored;
-      picture = pictureAt scored;
+      picture = E;
       bounds = b;
-      columns = columnScores (pictureAt scored) b;
-      rows = rowScores (pictureAt scored) b;
+      columns = columnScores E b;
+      rows = rowScores E b;
     }
 
 -- one axis: the strips of a picture over the rows `from` to `to`, at the columns `low` to `high`, and their scores

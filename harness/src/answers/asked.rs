@@ -12,8 +12,10 @@ pub enum Kind {
     Board,
     /// The same, each byte moved by at most 4.
     Noisy,
-    /// Texture with a flat bar, which takes a narrowing, and a board at the top left.
+    /// Texture with a flat bar, which takes a narrowing.
     Textured,
+    /// A board with a flat bar, which takes a narrowing.
+    Zoomed,
     /// One colour.
     Blank,
 }
@@ -29,7 +31,8 @@ impl Kind {
                 }
                 pixels
             }
-            Kind::Textured => screens::textured(rng, height, width, OWN_FACTOR, 1),
+            Kind::Textured => screens::textured(rng, height, width, OWN_FACTOR),
+            Kind::Zoomed => screens::zoomed(rng, height, width, OWN_FACTOR, 1),
             Kind::Blank => screens::blank(height, width, rng.word() as u8),
         }
     }

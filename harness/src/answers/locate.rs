@@ -16,7 +16,7 @@ const fn read(kind: Kind, height: usize, width: usize) -> Asked {
 }
 
 const fn narrowed(height: usize, width: usize) -> Asked {
-    Asked { kind: Kind::Textured, height, width, answer: 0, narrowed: 1 }
+    Asked { kind: Kind::Zoomed, height, width, answer: 0, narrowed: 1 }
 }
 
 const ASKED: &[Asked] = &[

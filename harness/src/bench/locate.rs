@@ -4,7 +4,7 @@
 use super::screen::Kind;
 use super::{least, timed};
 use crate::original::probe::OWN_FACTOR;
-use crate::original::{load, ImageBoard};
+use crate::original::{load, probed, ImageBoard};
 use crate::port::{self, Located, Slices};
 use crate::quiet::caught;
 use crate::record::Record;
@@ -45,13 +45,17 @@ impl Room {
     }
 }
 
-/// Both came to the same record, and the screen was as its kind says.
-fn checked(kind: Kind, board: &ImageBoard, located: &Located) {
-    let record = load::record(board);
+/// Both came to the same record, and the screen was as its kind says. The record of a narrowed screen is
+/// that of the copy that goes on with the edge picture of the last narrowing, as the port does.
+fn checked(kind: Kind, sides: [usize; 2], board: &ImageBoard, located: &Located) {
+    let mut record = load::record(board);
+    assert_eq!((record.height, record.width), (located.board.height, located.board.width));
+    if located.narrowed > 0 {
+        let numbers = load::numbers(&kind.pixels(sides[0], sides[1]));
+        record = probed::locate(numbers, sides[0], sides[1], OWN_FACTOR).record;
+    }
     if located.answer == 0 {
         assert_eq!(record, located.board.record(), "both did the same work");
-    } else {
-        assert_eq!((record.height, record.width), (located.board.height, located.board.width));
     }
     match kind {
         Kind::Clean | Kind::Noisy => assert_eq!((located.answer, located.narrowed), (0, 0)),
@@ -80,7 +84,7 @@ pub fn measure(kind: Kind, height: usize, width: usize) -> (Duration, Duration) 
             timed(|| port = Some(room.locate(black_box(given))))
         },
     );
-    checked(kind, &rust.unwrap(), &port.unwrap());
+    checked(kind, [height, width], &rust.unwrap(), &port.unwrap());
     times
 }
 
@@ -109,6 +113,6 @@ pub fn with_load(kind: Kind, height: usize, width: usize) -> (Duration, Duration
             })
         },
     );
-    checked(kind, &rust.unwrap(), &port.unwrap());
+    checked(kind, [height, width], &rust.unwrap(), &port.unwrap());
     times
 }

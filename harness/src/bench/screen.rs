@@ -38,7 +38,7 @@ impl Kind {
                 pixels
             }
             Kind::Blank => screens::blank(height, width, 190),
-            Kind::Narrowed => screens::textured(rng, height, width, OWN_FACTOR, 1),
+            Kind::Narrowed => screens::textured(rng, height, width, OWN_FACTOR),
         }
     }
 

@@ -16,8 +16,8 @@ pub struct End {
 #[derive(Debug)]
 enum Look {
     Blank,
-    /// Texture and a flat bar, which as many narrowings close.
-    Textured {
+    /// A board and a flat bar, which as many narrowings close.
+    Zoomed {
         seed: u64,
         narrowings: u32,
     },
@@ -44,8 +44,8 @@ impl Built {
         let (height, width) = (self.height, self.width);
         match self.look {
             Look::Blank => screens::blank(height, width, 100),
-            Look::Textured { seed, narrowings } => {
-                screens::textured(&mut Rng::new(seed), height, width, self.factor, narrowings)
+            Look::Zoomed { seed, narrowings } => {
+                screens::zoomed(&mut Rng::new(seed), height, width, self.factor, narrowings)
             }
             Look::Board { from: [top, left], pitch: [down, across] } => Drawn {
                 top,
@@ -81,9 +81,9 @@ const fn panics(factor: usize, sides: [usize; 2]) -> Built {
 }
 
 /// Read after as many narrowings.
-const fn textured(factor: usize, sides: [usize; 2], narrowings: u32, seed: u64) -> Built {
+const fn zoomed(factor: usize, sides: [usize; 2], narrowings: u32, seed: u64) -> Built {
     let end = End { answer: Some(0), returns: true, narrowed: narrowings };
-    let look = Look::Textured { seed, narrowings };
+    let look = Look::Zoomed { seed, narrowings };
     Built { height: sides[0], width: sides[1], factor, end, look }
 }
 
@@ -106,7 +106,7 @@ pub const DEPARTURES: &[Built] = &[
     board([55, 42], [2, 3], [4, 12], 8),
     board([647, 60], [5, 4], [210, 12], 9),
     SMALL,
-    textured(3, [240, 260], 1, 1),
+    zoomed(3, [240, 260], 1, 1),
     // factors that the port refuses
     by(0, SMALL),
     panics(0, [40, 44]),
@@ -114,7 +114,7 @@ pub const DEPARTURES: &[Built] = &[
     blank(1, [66, 90]),
     by(6, SMALL),
     blank(6, [24, 44]),
-    textured(6, [407, 431], 1, 10),
+    zoomed(6, [407, 431], 1, 1),
     panics(6, [23, 44]),
     // sides that it refuses for their factor
     by(4, board([15, 30], [1, 2], [5, 13], 0)),
@@ -131,17 +131,17 @@ const SMALL: Built = board([60, 64], [7, 5], [12, 11], 0);
 /// Screens that are read after one narrowing and after two by each factor. The first narrowing of each
 /// leaves rows and columns over.
 pub const READ_NARROWED: &[Built] = &[
-    textured(2, [135, 151], 1, 10),
-    textured(3, [205, 230], 1, 10),
-    textured(4, [271, 303], 1, 10),
-    textured(5, [339, 368], 1, 10),
-    textured(2, [271, 301], 2, 2),
-    textured(3, [611, 640], 2, 2),
-    textured(4, [1079, 1103], 2, 12),
-    textured(4, [1079, 1103], 2, 17),
-    textured(5, [1684, 1699], 2, 8),
-    textured(5, [1684, 1699], 2, 12),
-    textured(2, [543, 571], 3, 12),
+    zoomed(2, [135, 151], 1, 4),
+    zoomed(3, [205, 230], 1, 4),
+    zoomed(4, [271, 303], 1, 12),
+    zoomed(5, [339, 368], 1, 3),
+    zoomed(2, [271, 301], 2, 3),
+    zoomed(3, [611, 640], 2, 1),
+    zoomed(4, [1079, 1103], 2, 3),
+    zoomed(4, [1079, 1103], 2, 9),
+    zoomed(5, [1684, 1699], 2, 3),
+    zoomed(5, [1684, 1699], 2, 5),
+    zoomed(2, [543, 571], 3, 4),
 ];
 
 /// Large screens that are read: one of everyday sides, one whose sample's size m has another

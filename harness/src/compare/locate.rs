@@ -1,6 +1,7 @@
-//! Locating beside `get_pos_pixel`, with each factor: every field, the planes, the first edge picture
-//! and both score lists. All comes from the probed copy, which narrows by the factor; with that of the
-//! unchanged file it must do as this does.
+//! Locating beside `get_pos_pixel`, with each factor: every field, the planes, the edge picture of the
+//! last picture and both score lists. All comes from the probed copy, which narrows by the factor and goes
+//! on with that picture; with the factor of the unchanged file this is run too, and must do the same on
+//! every screen that is not narrowed.
 
 use super::built::{Built, End, DEPARTURES, LARGE, READ_NARROWED};
 use super::lent::Lent;
@@ -34,15 +35,15 @@ const READABLE: usize = 67;
 /// A factor, a number of narrowings, and how many screens are compared that are read after as many, in
 /// the short run and in the long; both have those of `READ_NARROWED` too.
 const READS: &[(usize, u32, u64, u64)] = &[
-    (2, 1, 15, 600),
-    (3, 1, 15, 1_000),
-    (4, 1, 10, 500),
-    (5, 1, 10, 400),
-    (2, 2, 5, 150),
-    (3, 2, 2, 100),
-    (4, 2, 0, 40),
-    (5, 2, 0, 25),
-    (2, 3, 0, 30),
+    (2, 1, 80, 2_000),
+    (3, 1, 80, 2_000),
+    (4, 1, 50, 1_000),
+    (5, 1, 40, 800),
+    (2, 2, 20, 400),
+    (3, 2, 10, 200),
+    (4, 2, 1, 40),
+    (5, 2, 1, 25),
+    (2, 3, 2, 60),
 ];
 
 /// The least side that locating takes with a factor (02, R-1).
@@ -214,6 +215,7 @@ const ROWS_READ: &str = "rows that read";
 const ANSWER: &str = "any screen";
 const READ: &str = "a screen that is read, answer 0";
 const NARROWED: &str = "a screen that is narrowed";
+const LAST_EDGES: &str = "a screen that is narrowed and does not get too small";
 const EDGES: &str = "answers 0 and 5 to 9";
 const SCORES: &str = "answers 0 and 6 to 9";
 const FACTOR_0: &str = "factor 0";
@@ -233,6 +235,7 @@ const BY_5_PANICS: &str = "by 5, panics";
 /// Rows marked (run): the departures, and what is handed back beside the record.
 const ROWS: &[Row] = &[
     (TOO_SMALL, &[]),
+    (LAST_EDGES, &[]),
     (COLUMNS_NO_GAP, &[]),
     (COLUMNS_FAR, &[ROWS_READ, ROWS_FAR]),
     (COLUMNS_FAR_ROWS_NO_GAP, &[]),
@@ -254,6 +257,8 @@ const ROWS: &[Row] = &[
 struct ByFactor {
     /// How many were read after 0, 1, 2 and more narrowings.
     read_after: [u64; 4],
+    /// How many after some narrowing with bounds that the widening had moved.
+    widened: u64,
     /// How many were narrowed with so many rows, and so many columns, left over.
     left_over: [[u64; 5]; 2],
 }
@@ -278,6 +283,10 @@ struct Wanted {
     returns: bool,
     /// Whether the Rust leaves a pitch of the rows.
     rows_read: bool,
+    /// Whether the widening moved a bound.
+    widened: bool,
+    /// Whether the unchanged file was run, and came to another record.
+    moved: bool,
 }
 
 impl Cases {
@@ -308,8 +317,8 @@ impl Cases {
     }
 
     /// How often each answer was met, and what the screens of each factor came to. An error where none
-    /// was read after one narrowing or after two, or where some number of rows or columns was never left
-    /// over.
+    /// was read after one narrowing or after two, or with bounds that were widened then, or where some
+    /// number of rows or columns was never left over.
     fn note(&self) -> Result<String, String> {
         let mut answers = vec![];
         let mut reads = vec![];
@@ -319,26 +328,28 @@ impl Cases {
         for (factor, met) in FACTORS.zip(&self.by_factor) {
             let [_, once, twice, _] = met.read_after;
             let left_over = met.left_over.iter().all(|counts| !counts[1..factor].contains(&0));
-            if once == 0 || twice == 0 || !left_over {
-                let ByFactor { read_after, left_over } = met;
+            if once == 0 || twice == 0 || met.widened == 0 || !left_over {
+                let ByFactor { read_after, widened, left_over } = met;
                 return Err(format!(
                     "factor {factor} was not tried enough: read after 0, 1, 2 and more narrowings \
-                     {read_after:?}, narrowed with 0 to 4 rows and columns over {left_over:?}"
+                     {read_after:?}, with widened bounds {widened}, narrowed with 0 to 4 rows and \
+                     columns over {left_over:?}"
                 ));
             }
-            reads.push(format!("by {factor} {:?}", met.read_after));
+            reads.push(format!("by {factor} {:?}, {} widened", met.read_after, met.widened));
         }
         Ok(format!(
-            "; answers {}; read after 0, 1, 2 and more narrowings: {}{}",
+            "; answers {}; read after 0, 1, 2 and more narrowings, and after some with bounds that the \
+             widening had moved: {}{}",
             answers.join(", "),
-            reads.join(", "),
+            reads.join("; "),
             self.met.note()?
         ))
     }
 
     /// Counts a screen that was looked at.
     fn ended(&mut self, call: &Call, want: &Wanted) {
-        let Wanted { returns, rows_read, .. } = *want;
+        let Wanted { returns, rows_read, widened, moved, .. } = *want;
         let Located { answer, narrowed, .. } = want.located;
         self.end = Some(End { answer: Some(answer), returns, narrowed });
         self.answers[answer as usize] += 1;
@@ -355,6 +366,10 @@ impl Cases {
             {
                 counts[side % factor] += 1;
             }
+            self.of(factor).widened += (answer == 0 && widened) as u64;
+        }
+        if moved {
+            self.met.count(LAST_EDGES);
         }
         match (answer, returns) {
             (5, _) => self.met.count(TOO_SMALL),
@@ -430,7 +445,8 @@ impl Cases {
         let pixels = match rng.below(16) {
             0 | 1 => screens::noise(rng, height, width),
             2 => screens::blank(height, width, rng.word() as u8),
-            3 => screens::textured(rng, height.max(30), width.max(30), factor, 1),
+            3 if rng.below(2) == 0 => screens::textured(rng, height.max(30), width.max(30), factor),
+            3 => screens::zoomed(rng, height.max(30), width.max(30), factor, 1),
             kind => {
                 let most = (height.min(width) / 2).clamp(8, 40);
                 let mut pixels = Drawn::filling(rng, height, width, 6, most).screen(height, width);
@@ -467,7 +483,7 @@ impl Cases {
             }
             let side = |rng: &mut Rng| rng.between(least, least + 40 * factor);
             let (height, width) = (side(&mut self.rng), side(&mut self.rng));
-            let pixels = screens::textured(&mut self.rng, height, width, factor, narrowings);
+            let pixels = screens::zoomed(&mut self.rng, height, width, factor, narrowings);
             self.screen(factor, height, width, &pixels)?;
             let wanted = End { answer: Some(0), returns: true, narrowed: narrowings };
             found += (self.end == Some(wanted)) as u64;
@@ -658,7 +674,8 @@ fn wanted(pixels: &[u8], call: &Call) -> Result<Wanted, String> {
     }
     let scores = run.seen.scores.map_or(vec![], |(columns, rows)| [columns, rows].concat());
     let (edges, returns, rows_read) = (run.seen.edges, run.whole, rust.pixelr != 0);
-    Ok(Wanted { located, planes: run.planes, edges, scores, returns, rows_read })
+    let (widened, moved) = (run.seen.scanned != run.seen.widened, run.moved);
+    Ok(Wanted { located, planes: run.planes, edges, scores, returns, rows_read, widened, moved })
 }
 
 /// What docs/DIFFERENCES.md says of the Rust's record: where it returns with pitches, all fields are

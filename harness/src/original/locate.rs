@@ -17,9 +17,8 @@ pub struct Traced {
     pub record: Record,
     pub planes: Vec<f32>,
     pub seen: Seen,
-    /// Of a screen that is narrowed and not too small, with the factor of the unchanged file: the
-    /// bounds that this widens to.
-    pub unchanged: Option<[usize; 4]>,
+    /// Whether the unchanged file was run, and came to another record.
+    pub moved: bool,
 }
 
 /// Runs the copy, and with its own factor the unchanged file, which must do as docs/DIFFERENCES.md says;
@@ -27,12 +26,9 @@ pub struct Traced {
 pub fn traced(pixels: &[u8], height: usize, width: usize, factor: usize) -> Result<Traced, String> {
     let ran = probed::locate(numbers(pixels), height, width, factor);
     let answer = answer_of(&ran).ok_or("the Rust panics before the scores")?;
-    let mut unchanged = None;
-    if factor == OWN_FACTOR {
-        unchanged = beside_unchanged(pixels, height, width, &ran)?;
-    }
+    let moved = factor == OWN_FACTOR && beside_unchanged(pixels, height, width, &ran)?;
     let Ran { seen, whole, record, planes } = ran;
-    Ok(Traced { answer, whole, record, planes, seen, unchanged })
+    Ok(Traced { answer, whole, record, planes, seen, moved })
 }
 
 /// 01's number for how a run ended: panics are 6 and 8, pitches 0.0 are 7 and 9, a quiet return is 5. A
@@ -49,31 +45,24 @@ pub fn answer_of(ran: &Ran) -> Option<u32> {
 }
 
 /// The unchanged file leaves what the copy left. Where the screen was narrowed and did not get too small,
-/// this is so of the sides and the planes; the rest is what the first edge picture gives with the last
-/// bounds. Hands back what these are widened to there.
-fn beside_unchanged(
-    pixels: &[u8],
-    height: usize,
-    width: usize,
-    ran: &Ran,
-) -> Result<Option<[usize; 4]>, String> {
-    let mut board = ImageBoard::new(numbers(pixels), height, width);
+/// this is so of the sides and the planes; its record is what the first edge picture gives with the last
+/// bounds. Hands back whether it is another one.
+fn beside_unchanged(pixels: &[u8], height: usize, width: usize, ran: &Ran) -> Result<bool, String> {
+    let fresh = || ImageBoard::new(numbers(pixels), height, width);
+    let mut board = fresh();
     let whole = caught(|| board.get_pos_pixel()).is_some();
     let own = record(&board);
     let mut wanted = (ran.whole, ran.record);
-    let mut widened = None;
     if let (true, Some(bounds)) = (ran.seen.narrowed > 0, ran.seen.scanned) {
-        let fresh = ImageBoard::new(numbers(pixels), height, width);
-        let first = steps::edges(&fresh.get_gradient());
-        let seen = probed::widen(&first, [ran.record.height, ran.record.width].map(|s| s - 2), bounds);
-        widened = seen.widened;
-        wanted = from_first(&ran.record, &seen);
+        let first = steps::edges(&fresh().get_gradient());
+        let Record { height, width, .. } = ran.record;
+        wanted = from_first(&ran.record, &probed::widen(&first, [height - 2, width - 2], bounds));
     }
     let same = planes(&board).map(f32::to_bits).eq(ran.planes.iter().map(|x| x.to_bits()));
     if (whole, own) != wanted || !same {
         return Err(format!("the unchanged file leaves {own:?} and not {wanted:?}, planes {same}"));
     }
-    Ok(widened)
+    Ok(own != ran.record)
 }
 
 /// Whether a run with these bounds and scores returns, and its record then.
