@@ -144,7 +144,7 @@ typedef struct {
     uint32_t narrowed;            /* how often the planes were narrowed */
 } folgutan_located;
 
-/* Finds a board in the planes of a screen (01, Locating; 02, R-1).
+/* Finds a board in the planes of a screen (01, Locating; 02, R-1 and R-3).
  *
  * board: only its sides, h and w, are looked at.
  * factor: 2 to 5, the same for each narrowing of the call. Both sides are
@@ -161,10 +161,11 @@ typedef struct {
  *   4 * (h + w). What these entries hold does not matter, and they are free
  *   afterwards. Entries further on keep their content.
  *
- * FOLGUTAN_DONE: the record is the board's. r_1, c_1, r0, c0 and the pitches
- *   are in pixels of the edge picture, which is that of the planes as they
- *   came in, also after a narrowing; the sides are those of the planes as they
- *   are left. The count of rows or of columns can be 0.
+ * FOLGUTAN_DONE: the record is the board's. Its sides, corner, offsets and
+ *   pitches are in pixels of the planes as they are left, also after a
+ *   narrowing: sampling takes this record and these planes as they are. On the
+ *   screen as it came in a pixel of them is factor by factor pixels, once for
+ *   each narrowing. The count of rows or of columns can be 0.
  * Refusals, the first that holds:
  *   FOLGUTAN_BAD_FACTOR   factor is outside 2 to 5
  *   FOLGUTAN_BAD_SIDE     h or w is below 12, below 4 * factor (16 for 4, 20
@@ -187,11 +188,14 @@ typedef struct {
  * After FOLGUTAN_DONE and the further refusals:
  * - planes hold the picture, narrowed as often as `narrowed` says and packed by
  *   the new sides, then 0.0 up to the old 3 * h * w;
- * - edges start with the first edge picture, (h - 2) * (w - 2) bytes, rows
- *   first, 1 for set and 0 for unset;
+ * - edges start with the edge picture of the planes as they are left, with
+ *   board.height and board.width as they are handed back
+ *   (height - 2) * (width - 2) bytes, rows first, 1 for set and 0 for unset.
+ *   After FOLGUTAN_DONE it is the picture that was scored;
  * - scores start with the column scores, followed by the row scores; after
  *   FOLGUTAN_TOO_SMALL they are unchanged.
- * Entries further on keep their content. */
+ * Entries further on keep their content: behind a narrowed edge picture nothing
+ * is left of an earlier one. */
 folgutan_located folgutan_locate(folgutan_board board, size_t factor,
                                  float *planes, size_t planes_len,
                                  uint8_t *edges, size_t edges_len,

@@ -234,8 +234,7 @@ fn widened_from(e: &[u8], v: View, beside: Beside, c: usize) -> usize
     place_of(v, m)
 }
 
-// Bounds widened in an edge picture whose rows are `stride` bytes long (01, "Locating"). After a narrowing row and column are those of
-// the last picture, and the edges those of the first.
+// Bounds widened in an edge picture whose rows are `stride` bytes long (01, "Locating"). The picture may be larger than row by column.
 pub fn widen(edges: &[u8], stride: usize, row: usize, column: usize, b: Bounds) -> Bounds
     requires { ⌜ (3 ≤ row) × (row ≤ 4094) × (3 ≤ column) × (column ≤ 4094) × (column ≤ stride) × (row * stride ≤ length (now edges))
         × BoundsIn row column b ⌝ }

@@ -85,7 +85,7 @@ pub fn widen(run: &Run) -> Outcome {
     for _ in 0..run.choose(15_000, 300_000) {
         count += 1;
         let (row, column) = (side(rng, 10, 140), side(rng, 10, 140));
-        // the picture may be larger than the sides, as after a narrowing
+        // the picture may be larger than the sides
         let (more_rows, more_columns) =
             if rng.below(3) == 0 { (rng.below(30), rng.below(30)) } else { (0, 0) };
         let stride = column + more_columns;
