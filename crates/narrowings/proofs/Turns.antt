@@ -165,25 +165,33 @@ module _ (f : ℕ) (i : FactorIn f) where
           sound = sound-large (g .sound) q;
         }
 
-    -- what the code hands back on each way out
+    -- what the code hands back where it ends at the screen t
+    narrows-at : (t : Stage) (end : Bool) {b : Bounds} {bytes : List ℕ} → lastOf f h w start ≡ record { stage = t; tooSmall = end }
+        → leastPlaneSide ≤ t .height → leastPlaneSide ≤ t .width → t .height * t .width ≤ h * w
+        → Looks (t .height) (t .width) (t .planes) b bytes
+        → Narrows h w (lastOf f h w start)
+        (record { height = t .height; width = t .width; narrowed = t .narrowed; small = end; bounds = b }) (t .planes) bytes
+    narrows-at t end e a b n l =
+        record {
+          height-is = rw e;
+          width-is = rw e;
+          narrowed-is = rw e;
+          small-is = rw e;
+          planes-are = rw e;
+          low-h = a;
+          low-w = b;
+          area = n;
+          looks = rw e l;
+        }
+
     pub narrows-end : {b : Bounds} {bytes : List ℕ} → Looks (s .height) (s .width) (s .planes) b bytes
         → thin (s .height) (s .width) b ≡ false
         → Narrows h w (lastOf f h w start)
         (record { height = s .height; width = s .width; narrowed = s .narrowed; small = false; bounds = b }) (s .planes) bytes
     narrows-end l p =
-        let q = going-end (rw (l .bounds-are) at p) in
         let sides = g .sound .fit .sides in
-        record {
-          height-is = rw q;
-          width-is = rw q;
-          narrowed-is = rw q;
-          small-is = rw q;
-          planes-are = rw q;
-          low-h = omega (arith, sides .low-h);
-          low-w = omega (arith, sides .low-w);
-          area = g .sound .area;
-          looks = rw q l;
-        }
+        narrows-at s false (going-end (rw (l .bounds-are) at p)) (omega (arith, sides .low-h)) (omega (arith, sides .low-w))
+        (g .sound .area) l
 
     pub narrows-small : {b : Bounds} {bytes : List ℕ} → thin (s .height) (s .width) (boundsAt s) ≡ true
         → small (s .height / f) (s .width / f) ≡ true
@@ -192,19 +200,8 @@ module _ (f : ℕ) (i : FactorIn f) where
         → Narrows h w (lastOf f h w start)
         (record { height = t .height; width = t .width; narrowed = t .narrowed; small = true; bounds = b }) (t .planes) bytes
     narrows-small p q l =
-        let e = going-small p q in
         let t = sound-next (g .sound) in
-        record {
-          height-is = rw e;
-          width-is = rw e;
-          narrowed-is = rw e;
-          small-is = rw e;
-          planes-are = rw e;
-          low-h = t .fit .sides .low-h;
-          low-w = t .fit .sides .low-w;
-          area = t .area;
-          looks = rw e l;
-        }
+        narrows-at (next f s) true (going-small p q) (t .fit .sides .low-h) (t .fit .sides .low-w) (t .area) l
 
 -- ---- the last picture's edges, where they are copied from the bytes
 

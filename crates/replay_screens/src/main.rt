@@ -1,7 +1,7 @@
 // Replays screens that the Rust was run on: standard input holds them, one after another: height and width, two bytes each, low byte
 // first, then the pixels. A line for each factor has the answer, the record and values of the planes that are left; what is printed
-// is held to the file stdout, which has the Rust's (scripts/answers locate), and 01's number where the Rust does not read. The screens
-// are too small to be read after a narrowing by 4 or 5: with these what is narrowed answers 5.
+// is held to the file stdout, which has the Rust's, changed as 02 says (scripts/answers locate), and 01's number where it does not read.
+// The screens are too small to be read after a narrowing by 4 or 5: with these what is narrowed answers 5.
 ghost use Prim.Native.Nat.{_<_};
 use board::Board;
 use libc::STDIN_FILENO;

@@ -2,7 +2,7 @@
 //! after another: height and width, two bytes each, low byte first, then the pixels. A line for each
 //! factor has the answer, the Rust's fields afterwards and values of its planes, pitches and values by
 //! their bits. The answer is 0 where the Rust reads the board; where it returns early or panics, 01's
-//! number for that.
+//! number for that. The Rust is the copy that is changed as 02 says (build.rs).
 
 use super::asked::{Asked, Kind};
 use crate::original::locate::traced;

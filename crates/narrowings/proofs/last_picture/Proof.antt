@@ -14,6 +14,9 @@ at-start c = c .before .before .before .before .before .before .before .before
 abbrev at-look : tie.After-narrow-on → tie.After-look
 at-look c = c .before .before .before .before .before .before .before .before
 
+abbrev at-loop : tie.After-copy-u8 → tie.After-narrow-on
+at-loop c = c .before .before .before .before .before .before .before .before .before .before .before
+
 abbrev begun : tie.After-narrow-on → tie.Start
 begun c = at-start (at-look c)
 
@@ -59,10 +62,7 @@ same-length-4 : tie.Need-same-length-4
 same-length-4 c = search needs
 
 returns : tie.Need-returns
-returns c =
-    let copied = c .before .before in
-    narrows-copied (copied .before .before .before .before .before .before .before .before .before .before .before .narrow-on .ensures)
-    (copied .copy-u8 .ensures)
+returns c = narrows-copied (at-loop (c .before .before) .narrow-on .ensures) (c .before .before .copy-u8 .ensures)
 
 pub last-picture-spec : {M : Type 1} → statement M
 last-picture-spec =
