@@ -69,26 +69,21 @@ const CHANGED: &[(&str, &str)] = &[
 /// A copy of the original in OUT_DIR with lines added that store locals, and some changed.
 fn probed(file: &Path) -> PathBuf {
     let text = fs::read_to_string(file).expect("the Rust original can be read");
+    for line in ADDED.iter().map(|add| add.0).chain(CHANGED.iter().map(|change| change.0)) {
+        let found = text.lines().filter(|own| *own == line).count();
+        assert_eq!(found, 1, "this line is in the Rust original once: {line}");
+    }
     let mut out = String::new();
-    let mut found = 0;
-    let mut changed = 0;
     for line in text.lines() {
-        for (before, added) in ADDED {
-            if line == *before {
-                found += 1;
-                for extra in *added {
-                    out.push_str(extra);
-                    out.push('\n');
-                }
-            }
+        let added = ADDED.iter().find(|add| line == add.0);
+        for extra in added.map_or(&[][..], |add| add.1) {
+            out.push_str(extra);
+            out.push('\n');
         }
         let other = CHANGED.iter().find(|change| line == change.0);
-        changed += other.is_some() as usize;
         out.push_str(other.map_or(line, |change| change.1));
         out.push('\n');
     }
-    assert_eq!(found, ADDED.len(), "each line to probe is in the Rust original once");
-    assert_eq!(changed, CHANGED.len(), "each line to change is in the Rust original once");
     let copy = PathBuf::from(env::var("OUT_DIR").expect("cargo sets it")).join("obr_probed.rs");
     fs::write(&copy, out).expect("the probed copy can be written");
     copy

@@ -78,7 +78,7 @@ extern "C" {
 
 /* The board record (01, Load). It is passed and handed back by value. */
 typedef struct {
-    size_t height, width;  /* sides of the screen, in pixels */
+    size_t height, width;  /* sides of the picture in the planes, in pixels */
     size_t r_1, c_1;       /* top row and left column of the board */
     size_t r0, c0;         /* where the grid of cells begins, from there: the
                             * smallest offset with the most votes. No line
@@ -163,9 +163,9 @@ typedef struct {
  *
  * FOLGUTAN_DONE: the record is the board's. Its sides, corner, offsets and
  *   pitches are in pixels of the planes as they are left, also after a
- *   narrowing: sampling takes this record and these planes as they are. On the
- *   screen as it came in a pixel of them is factor by factor pixels, once for
- *   each narrowing. The count of rows or of columns can be 0.
+ *   narrowing: sampling takes this record and these planes as they are. With n
+ *   narrowings a pixel of them is factor^n by factor^n pixels of the screen as
+ *   it came in. The count of rows or of columns can be 0.
  * Refusals, the first that holds:
  *   FOLGUTAN_BAD_FACTOR   factor is outside 2 to 5
  *   FOLGUTAN_BAD_SIDE     h or w is below 12, below 4 * factor (16 for 4, 20
@@ -191,7 +191,7 @@ typedef struct {
  * - edges start with the edge picture of the planes as they are left, with
  *   board.height and board.width as they are handed back
  *   (height - 2) * (width - 2) bytes, rows first, 1 for set and 0 for unset.
- *   After FOLGUTAN_DONE it is the picture that was scored;
+ *   Unless the answer is FOLGUTAN_TOO_SMALL, it is the picture that was scored;
  * - scores start with the column scores, followed by the row scores; after
  *   FOLGUTAN_TOO_SMALL they are unchanged.
  * Entries further on keep their content: behind a narrowed edge picture nothing

@@ -1,4 +1,4 @@
-/* Locating (01, Locating; 02, R-1). */
+/* Locating (01, Locating; 02, R-1 and R-3). */
 #include "folgutan.h"
 
 #include "calls.h"
@@ -328,17 +328,20 @@ static void edges_left(const char *where, left l, call c, size_t scores)
     free(edges);
 }
 
-/* Left half black, right half white, or all black: too small after one narrowing, with the edge
- * picture of the narrowed screen. The first picture has 1 in the columns of the step alone. */
+/* Left half black, right half white, or all black: too small after so many narrowings, with the edge
+ * picture of the last one, which is 1 in the columns of the step. Its first row is here. */
 static const struct halves {
-    size_t factor, side;
-    uint8_t right, edges[16];
+    size_t factor, side, narrowings;
+    uint8_t right, edges[32];
 } halves[] = {
-    {3, 12, 255, {1, 1, 1, 1}},
-    {2, 12, 255, {0, 1, 1, 0, 0, 1, 1, 0, 0, 1, 1, 0, 0, 1, 1, 0}},
-    {4, 16, 255, {1, 1, 1, 1}},
-    {5, 20, 255, {1, 1, 1, 1}},
-    {3, 12, 0, {0, 0, 0, 0}},
+    {3, 12, 1, 255, {1, 1}},
+    {2, 12, 1, 255, {0, 1, 1, 0}},
+    {4, 16, 1, 255, {1, 1}},
+    {5, 20, 1, 255, {1, 1}},
+    {3, 12, 1, 0, {0, 0}},
+    {2, 134, 2, 255, {[14] = 1, 1}},
+    {3, 207, 2, 255, {[9] = 1, 1}},
+    {2, 270, 3, 255, {[14] = 1, 1}},
 };
 
 static void halved(struct halves e)
@@ -346,16 +349,19 @@ static void halved(struct halves e)
     char where[120];
     snprintf(where, sizeof where, "locate of halves 0 and %d, side %zu, factor %zu", e.right,
              e.side, e.factor);
-    size_t area = e.side * e.side, narrowed = e.side / e.factor;
+    size_t area = e.side * e.side, h = e.side;
+    for (size_t n = 0; n < e.narrowings; n++)
+        h /= e.factor;
     float *values = memory(3 * area, sizeof *values);
     for (size_t at = 0; at < 3 * area; at++)
         values[at] = at % e.side < e.side / 2 ? 0.0f : (float)e.right / 255.0f;
     call c = fitting(e.factor, e.side, e.side);
     left l = locate(values, e.side, e.side, c);
-    check(l.located.answer == FOLGUTAN_TOO_SMALL && l.located.narrowed == 1
-              && l.located.board.height == narrowed && l.located.board.width == narrowed,
-          where, "too small after one narrowing");
-    check(memcmp(l.edges, e.edges, (narrowed - 2) * (narrowed - 2)) == 0, where, "edge picture");
+    check(l.located.answer == FOLGUTAN_TOO_SMALL && l.located.narrowed == e.narrowings
+              && l.located.board.height == h && l.located.board.width == h,
+          where, "too small after the narrowings");
+    for (size_t row = 0; row < h - 2; row++)
+        check(memcmp(l.edges + row * (h - 2), e.edges, h - 2) == 0, where, "a row of edges");
     edges_left(where, l, c, 0);
     drop(l);
     free(values);

@@ -180,8 +180,9 @@ mod linked {
             scratch_len: usize,
         );
         pub fn folgutan_inner_bounds(
-            edges: *const u8,
-            edges_len: usize,
+            gradient: *const f32,
+            gradient_len: usize,
+            threshold: f32,
             row: usize,
             column: usize,
         ) -> Corners;
@@ -398,10 +399,13 @@ pub mod inner {
         }
     }
 
-    pub fn bounds(edges: &[u8], row: usize, column: usize) -> Corners {
+    /// Of the picture whose points are set where the gradient is at least the threshold.
+    pub fn bounds(gradient: &[f32], threshold: f32, row: usize, column: usize) -> Corners {
         assert!((1..=4094).contains(&row) && (1..=4094).contains(&column));
-        assert!(row * column <= edges.len());
-        unsafe { linked::folgutan_inner_bounds(edges.as_ptr(), edges.len(), row, column) }
+        assert!(row * column <= gradient.len());
+        unsafe {
+            linked::folgutan_inner_bounds(gradient.as_ptr(), gradient.len(), threshold, row, column)
+        }
     }
 
     pub fn widen(edges: &[u8], stride: usize, row: usize, column: usize, b: Corners) -> Corners {

@@ -20,6 +20,11 @@ pub fn blank(height: usize, width: usize, byte: u8) -> Vec<u8> {
     vec![byte; 4 * height * width]
 }
 
+/// Black at the left, white at the right.
+pub fn halves(height: usize, width: usize) -> Vec<u8> {
+    painted(height, width, |_, j| if j < width / 2 { [0; 4] } else { [255; 4] })
+}
+
 fn painted(height: usize, width: usize, mut at: impl FnMut(usize, usize) -> Pixel) -> Vec<u8> {
     let mut out = Vec::with_capacity(4 * height * width);
     for i in 0..height {

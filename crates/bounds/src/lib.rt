@@ -1,5 +1,7 @@
 // The board's bounds in an edge picture: the scan from the middle outwards, and the widening (01, "Bounds scan" and "Locating").
-// Definitions: specs/Scan, specs/Widen, specs/Bounds; of the edge bytes: specs/Inner. Laws for callers: proofs/Laws.
+// The scan looks at few points, and whether a picture is the last one is known only after it (02, R-3): it takes the gradients and the
+// threshold, so that no edge picture has to be made for it. Definitions: specs/Scan, specs/Widen, specs/Bounds; of the edge bytes:
+// specs/Inner. Laws for callers: proofs/Laws.
 ghost use mathlib.Core.Path.{_≡_};
 ghost use Prim.Native.Nat.{_*_, _≤_, _<_};
 ghost use lib.Dec.{leb};
@@ -9,7 +11,7 @@ ghost use Rattle.bounds.specs.Bounds as Spec;
 ghost use Rattle.bounds.specs.Bounds.{boundsOf, BoundsIn};
 ghost use Rattle.bounds.specs.Scan as Scan;
 ghost use Rattle.bounds.specs.Scan.{skips, move, place, bound};
-ghost use Rattle.bounds.specs.Inner.{seen, low, high, Lies, columnsOf, rowsOf};
+ghost use Rattle.bounds.specs.Inner.{seen, marksBy, low, high, Lies, columnsOf, rowsOf};
 ghost use Rattle.bounds.specs.Widen.{second, pair, sumAt, lowered, widened};
 use board::Bounds;
 
@@ -63,16 +65,26 @@ fn is_set(e: &[u8], v: View, p: usize, m: usize) -> bool
     e[at] == 1
 }
 
+// The same of the gradients: the point is set if its gradient is at least the threshold.
+fn is_steep(g: &[f32], th: f32, v: View, p: usize, m: usize) -> bool
+    requires { ⌜ Lies v (length (now g)) × (p < v .across) × (m < v .along) ⌝ }
+    ensures { λ r. ⌜ r ≡ seen v (marksBy th (now (g .entry))) p m ⌝ }
+{
+    let q = place_of(v, m);
+    let at = p * v.down + q * v.right;
+    th <= g[at]
+}
+
 // The place across of the fifth set point at the distance m; the end of the middle third where there are fewer.
-fn fifth(e: &[u8], v: View, m: usize) -> usize
-    requires { ⌜ Lies v (length (now e)) × (m < v .along) ⌝ }
-    ensures { λ r. ⌜ r ≡ Scan.fifth (seen v (now (e .entry))) (low v) (high v) m ⌝ }
+fn fifth(g: &[f32], th: f32, v: View, m: usize) -> usize
+    requires { ⌜ Lies v (length (now g)) × (m < v .along) ⌝ }
+    ensures { λ r. ⌜ r ≡ Scan.fifth (seen v (marksBy th (now (g .entry)))) (low v) (high v) m ⌝ }
 {
     let hi = 2 * v.across / 3;
     // set points to pass before the fifth
     let mut more: usize = 4;
     for p in v.across / 3..hi {
-        if is_set(e, v, p, m) {
+        if is_steep(g, th, v, p, m) {
             if more == 0 {
                 return p;
             }
@@ -83,16 +95,16 @@ fn fifth(e: &[u8], v: View, m: usize) -> usize
 }
 
 // The first skip of 1 to 3 from the distance m to five set points.
-fn skip_from(e: &[u8], v: View, m: usize) -> Move
-    requires { ⌜ Lies v (length (now e)) × (m < v .along) ⌝ }
-    ensures { λ r. ⌜ r ≡ skips (seen v (now (e .entry))) (low v) (high v) m 1 3 ⌝ }
+fn skip_from(g: &[f32], th: f32, v: View, m: usize) -> Move
+    requires { ⌜ Lies v (length (now g)) × (m < v .along) ⌝ }
+    ensures { λ r. ⌜ r ≡ skips (seen v (marksBy th (now (g .entry)))) (low v) (high v) m 1 3 ⌝ }
 {
     for skip in 1..4 {
         if m <= skip {
             return Move::Stop;
         }
         let next = m - skip;
-        let p = fifth(e, v, next);
+        let p = fifth(g, th, v, next);
         if p < 2 * v.across / 3 {
             return Move::To(next, p);
         }
@@ -101,29 +113,29 @@ fn skip_from(e: &[u8], v: View, m: usize) -> Move
 }
 
 // One move of the scan from the distance m and the place p across.
-fn move_from(e: &[u8], v: View, m: usize, p: usize) -> Move
-    requires { ⌜ Lies v (length (now e)) × (m < v .along) × (p < v .across) ⌝ }
-    ensures { λ r. ⌜ r ≡ move (seen v (now (e .entry))) (low v) (high v) m p ⌝ }
+fn move_from(g: &[f32], th: f32, v: View, m: usize, p: usize) -> Move
+    requires { ⌜ Lies v (length (now g)) × (m < v .along) × (p < v .across) ⌝ }
+    ensures { λ r. ⌜ r ≡ move (seen v (marksBy th (now (g .entry)))) (low v) (high v) m p ⌝ }
 {
     if m == 0 {
         return Move::Stop;
     }
     let next = m - 1;
-    if is_set(e, v, p, next) {
+    if is_steep(g, th, v, p, next) {
         return Move::To(next, p);
     }
-    skip_from(e, v, m)
+    skip_from(g, th, v, m)
 }
 
 // Where the scan from the middle stops. The distance falls with each move, so it ends for every picture.
-fn bound_of(e: &[u8], v: View) -> usize
-    requires { ⌜ Lies v (length (now e)) × (0 < v .across) × (0 < v .along) ⌝ }
-    ensures { λ r. ⌜ r ≡ bound (v .way) (points (v .down) (v .right) (now (e .entry))) (v .across) (v .along) ⌝ }
+fn bound_of(g: &[f32], th: f32, v: View) -> usize
+    requires { ⌜ Lies v (length (now g)) × (0 < v .across) × (0 < v .along) ⌝ }
+    ensures { λ r. ⌜ r ≡ bound (v .way) (points (v .down) (v .right) (marksBy th (now (g .entry)))) (v .across) (v .along) ⌝ }
 {
     let mut m = place_of(v, v.along / 2);
     let mut p = v.across / 3;
     loop {
-        let next = move_from(e, v, m, p);
+        let next = move_from(g, th, v, m, p);
         match next {
             Move::Stop => {
                 return place_of(v, m);
@@ -136,7 +148,7 @@ fn bound_of(e: &[u8], v: View) -> usize
     }
 }
 
-// The columns, and the rows, of edges whose rows are `stride` bytes long.
+// The columns, and the rows, of a picture whose rows are `stride` long.
 fn columns(way: Way, row: usize, column: usize, stride: usize) -> View
     ensures { λ r. ⌜ r ≡ columnsOf way row column stride ⌝ }
 {
@@ -161,16 +173,16 @@ fn rows(way: Way, row: usize, column: usize, stride: usize) -> View
     }
 }
 
-// The bounds of an edge picture, rows first (01, "Bounds scan").
-pub fn get_r12c12(edges: &[u8], row: usize, column: usize) -> Bounds
-    requires { ⌜ (1 ≤ row) × (row ≤ 4094) × (1 ≤ column) × (column ≤ 4094) × (row * column ≤ length (now edges)) ⌝ }
-    ensures { λ r. ⌜ r ≡ boundsOf (points column 1 (now (edges .entry))) row column ⌝ }
+// The bounds of the edge picture of gradients, rows first (01, "Bounds scan").
+pub fn get_r12c12(g: &[f32], th: f32, row: usize, column: usize) -> Bounds
+    requires { ⌜ (1 ≤ row) × (row ≤ 4094) × (1 ≤ column) × (column ≤ 4094) × (row * column ≤ length (now g)) ⌝ }
+    ensures { λ r. ⌜ r ≡ boundsOf (points column 1 (marksBy th (now (g .entry)))) row column ⌝ }
 {
     Bounds {
-        r_1: bound_of(edges, rows(Way::Near, row, column, column)),
-        r_2: bound_of(edges, rows(Way::Far, row, column, column)),
-        c_1: bound_of(edges, columns(Way::Near, row, column, column)),
-        c_2: bound_of(edges, columns(Way::Far, row, column, column)),
+        r_1: bound_of(g, th, rows(Way::Near, row, column, column)),
+        r_2: bound_of(g, th, rows(Way::Far, row, column, column)),
+        c_1: bound_of(g, th, columns(Way::Near, row, column, column)),
+        c_2: bound_of(g, th, columns(Way::Far, row, column, column)),
     }
 }
 
@@ -234,7 +246,8 @@ fn widened_from(e: &[u8], v: View, beside: Beside, c: usize) -> usize
     place_of(v, m)
 }
 
-// Bounds widened in an edge picture whose rows are `stride` bytes long (01, "Locating"). The picture may be larger than row by column.
+// Bounds widened in an edge picture whose rows are `stride` bytes long (01, "Locating"). The picture may be larger than row by column:
+// so the unchanged Rust has it after a narrowing.
 pub fn widen(edges: &[u8], stride: usize, row: usize, column: usize, b: Bounds) -> Bounds
     requires { ⌜ (3 ≤ row) × (row ≤ 4094) × (3 ≤ column) × (column ≤ 4094) × (column ≤ stride) × (row * stride ≤ length (now edges))
         × BoundsIn row column b ⌝ }

@@ -1,35 +1,34 @@
--- What callers know of the edge bytes: that gradients of fit planes meet what `edges_of` requires, how many bytes there are, and that each
--- is 0 or 1. Assumes nothing.
-use Prim.Native.Nat.{ℕ, _-_, _*_, _≤_}
+-- What callers know of the edge bytes: that gradients of fit planes meet what `threshold_of` requires, how many bytes there are, that each
+-- is 0 or 1, and which is 1. Assumes nothing.
+use Prim.Native.Nat.{ℕ, _-_, _*_, _≤_, _<_}
 use mathlib.Core.Path.{_≡_, refl}
 use mathlib.Core.Bool.{Bool, true, false}
 use mathlib.Core.List.{List}
 use native.Mathlib.Omega.{arith}
 use borrow.Author.Tests.{ltb-true, ltb-false}
-use lib.Dec.{ltb}
+use lib.Dec.{eqb, ltb}
 use lib.Ieee.{Float, nan, le}
 use lib.ListN.{length, getD, List·getD-eq-default}
 use Rattle.lists.specs.Picture.{bit}
 use Rattle.lists.proofs.Tab.{getD-tab, length-tabFrom}
-use Rattle.lists.proofs.Picture.{bit-le}
+use Rattle.lists.proofs.Picture.{bit-le, bit-is}
 use Rattle.binary32.proofs.Plain.{plain-bits}
 use Rattle.board.specs.Board.{leastPlaneSide}
 use Rattle.board.specs.Inner.{FitPlanes}
 use Rattle.gradient.specs.Gradient.{gradients}
 use Rattle.gradient.proofs.Laws.{length-gradients, gradients-plain}
-use Rattle.edges.specs.Edges.{threshold, marks, marked, edges}
+use Rattle.edges.specs.Edges.{threshold, marks, edges}
 use Rattle.edges.specs.Inner.{AllPlain}
 
 pub all-plain : {h w : ℕ} {planes : List Float} → FitPlanes leastPlaneSide h w planes → AllPlain (gradients h w planes)
 all-plain {h} {w} {planes} f k b = plain-bits _ (gradients-plain planes h w f k (omega (arith, length-gradients h w planes)))
 
--- the bytes of the planes' gradients are their edge picture
-pub edges-of-gradients : (h w row column : ℕ) (planes g : List Float) → row ≡ h - 2 → column ≡ w - 2 → g ≡ gradients h w planes
-    → marked row column g ≡ edges h w planes
-edges-of-gradients h w row column planes g r c e = rw (r, c, e)
-
 pub length-edges : (h w : ℕ) (planes : List Float) → length (edges h w planes) ≡ (h - 2) * (w - 2)
 length-edges h w planes = length-tabFrom 0 ((h - 2) * (w - 2)) _
+
+-- a byte of the marks is 1 where the gradient is at least the threshold
+pub mark-is : (th : Float) (n : ℕ) (g : List Float) (k : ℕ) → k < n → eqb (getD (marks th n g) k 0) 1 ≡ le th (getD g k nan)
+mark-is th n g k l = rw (getD-tab n k (λ k. bit (le th (getD g k nan))) 0 l) (bit-is (le th (getD g k nan)))
 
 mark-le : (th : Float) (n : ℕ) (g : List Float) (k : ℕ) → getD (marks th n g) k 0 ≤ 1
 mark-le th n g k = at (ltb k n) refl

@@ -14,11 +14,6 @@ use Rattle.edges.specs.declared.Range.{Range}
 abbrev pub AllPlain : List Float → Type 0
 AllPlain g = (k : ℕ) → k < length g → toBits binary32 (getD g k nan) ≤ 0x7F800000
 
--- gradients of sides that a screen's have, and room for a byte each
-abbrev pub EdgesFit : ℕ → ℕ → List Float → List ℕ → Type 0
-EdgesFit row column g out =
-    (2 ≤ row) × (row ≤ 4094) × (2 ≤ column) × (column ≤ 4094) × (length g ≡ row * column) × (row * column ≤ length out)
-
 -- what the search asks of the gradients: their sides, and that each is a plain value
 pub record GradientsFit (row column : ℕ) (g : List Float) : Type 0 where
   pub row-in : row ≤ 4094

@@ -9,8 +9,8 @@ ghost use Rattle.lists.specs.Tab.{tab};
 ghost use Rattle.lists.specs.Picture.{bit};
 ghost use Rattle.rank.specs.Inner.{countAtMost};
 ghost use Rattle.edges.specs.Edges as Spec;
-ghost use Rattle.edges.specs.Edges.{sample, rankOf, threshold, marked};
-ghost use Rattle.edges.specs.Inner.{AllPlain, EdgesFit, GradientsFit, part, start, sought, Cut};
+ghost use Rattle.edges.specs.Edges.{sample, rankOf, threshold, marks};
+ghost use Rattle.edges.specs.Inner.{AllPlain, GradientsFit, part, start, sought, Cut};
 ghost use Rattle.edges.specs.Inner as Inner;
 
 // The bits of 0.01 and of 1.0, the limits of the threshold.
@@ -291,7 +291,8 @@ fn threshold_bits(row: usize, column: usize, g: &[f32], rank: u32) -> u32
     range.lo
 }
 
-fn threshold_of(row: usize, column: usize, g: &[f32]) -> f32
+// The threshold of gradients, `row` rows of `column` each.
+pub fn threshold_of(row: usize, column: usize, g: &[f32]) -> f32
     requires { ⌜ (2 ≤ row) × (2 ≤ column) ⌝ }
     requires { ⌜ GradientsFit row column (now g) ⌝ }
     ensures { λ r. ⌜ r ≡ threshold row column (now (g .entry)) ⌝ }
@@ -301,12 +302,10 @@ fn threshold_of(row: usize, column: usize, g: &[f32]) -> f32
 }
 
 // A byte for each gradient, 1 where it is at least the threshold.
-pub fn edges_of(row: usize, column: usize, g: &[f32], out: &mut [u8])
-    requires { ⌜ EdgesFit row column (now g) (now out) ⌝ }
-    requires { ⌜ AllPlain (now g) ⌝ }
-    ensures { λ _. ⌜ AtFront (marked row column (now (g .entry))) (now (out .entry)) (now (out .exit)) ⌝ }
+pub fn mark(th: f32, g: &[f32], out: &mut [u8])
+    requires { ⌜ length (now g) ≤ length (now out) ⌝ }
+    ensures { λ _. ⌜ AtFront (marks th (length (now (g .entry))) (now (g .entry))) (now (out .entry)) (now (out .exit)) ⌝ }
 {
-    let th = threshold_of(row, column, g);
     for k in 0..g.len() {
         out[k] = at_most(th, g[k]);
     }

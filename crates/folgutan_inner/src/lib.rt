@@ -8,10 +8,11 @@ ghost use Rattle.board.specs.Inner.{FactorIn, FitPlanes};
 ghost use Rattle.lists.specs.Front.{AtFront};
 ghost use Rattle.gradient.specs.Gradient.{gradients};
 ghost use Rattle.edges.specs.Edges.{marked};
-ghost use Rattle.edges.specs.Inner.{AllPlain, EdgesFit};
+ghost use Rattle.edges.specs.Inner.{GradientsFit};
 ghost use Rattle.narrow.specs.Narrow as Narrow;
 ghost use Rattle.bounds.specs.Bounds.{boundsOf, BoundsIn};
 ghost use Rattle.bounds.specs.Bounds as BoundsSpec;
+ghost use Rattle.bounds.specs.Inner.{marksBy};
 ghost use Rattle.strips.specs.Strip.{columnScores, rowScores};
 ghost use Rattle.strips.specs.Inner.{placeCount, Scorable};
 ghost use Rattle.sample.specs.Inner.{CellGives};
@@ -97,11 +98,11 @@ pub extern "C" fn folgutan_inner_gradient_of(
 
 #[no_mangle]
 pub extern "C" fn folgutan_inner_edges(row: usize, column: usize, g: &[f32], out: &mut [u8])
-    requires { ⌜ EdgesFit row column (now g) (now out) ⌝ }
-    requires { ⌜ AllPlain (now g) ⌝ }
+    requires { ⌜ (2 ≤ row) × (2 ≤ column) × GradientsFit row column (now g) × (row * column ≤ length (now out)) ⌝ }
     ensures { λ _. ⌜ AtFront (marked row column (now (g .entry))) (now (out .entry)) (now (out .exit)) ⌝ }
 {
-    edges::edges_of(row, column, g, out)
+    let th = edges::threshold_of(row, column, g);
+    edges::mark(th, g, out)
 }
 
 #[no_mangle]
@@ -120,11 +121,11 @@ pub extern "C" fn folgutan_inner_narrow(
 }
 
 #[no_mangle]
-pub extern "C" fn folgutan_inner_bounds(edges: &[u8], row: usize, column: usize) -> Corners
-    requires { ⌜ (1 ≤ row) × (row ≤ 4094) × (1 ≤ column) × (column ≤ 4094) × (row * column ≤ length (now edges)) ⌝ }
-    ensures { λ r. ⌜ asBounds r ≡ boundsOf (points column 1 (now (edges .entry))) row column ⌝ }
+pub extern "C" fn folgutan_inner_bounds(g: &[f32], th: f32, row: usize, column: usize) -> Corners
+    requires { ⌜ (1 ≤ row) × (row ≤ 4094) × (1 ≤ column) × (column ≤ 4094) × (row * column ≤ length (now g)) ⌝ }
+    ensures { λ r. ⌜ asBounds r ≡ boundsOf (points column 1 (marksBy th (now (g .entry)))) row column ⌝ }
 {
-    let b = bounds::get_r12c12(edges, row, column);
+    let b = bounds::get_r12c12(g, th, row, column);
     Corners {
         r_1: b.r_1,
         r_2: b.r_2,

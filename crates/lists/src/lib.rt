@@ -26,15 +26,6 @@ pub fn copy_f32(from: &[f32], n: usize, to: &mut [f32])
     }
 }
 
-pub fn copy_u8(from: &[u8], n: usize, to: &mut [u8])
-    requires { ⌜ (n ≤ length (now from)) × (n ≤ length (now to)) ⌝ }
-    ensures { λ _. ⌜ AtFront (take n (now (from .entry))) (now (to .entry)) (now (to .exit)) ⌝ }
-{
-    for k in 0..n {
-        to[k] = from[k];
-    }
-}
-
 pub fn copy_u32(from: &[u32], n: usize, to: &mut [u32])
     requires { ⌜ (n ≤ length (now from)) × (n ≤ length (now to)) ⌝ }
     ensures { λ _. ⌜ AtFront (take n (now (from .entry))) (now (to .entry)) (now (to .exit)) ⌝ }

@@ -24,7 +24,7 @@ module _ {l : Narrowed} {edges : List ℕ} {scores u8 u32 : ℕ} (g : Leads l ed
   abbrev column : ℕ
   column = l .width - 2
 
-  -- the last edge picture
+  -- the edge picture of the last picture
   abbrev picture : List ℕ
   picture = take (row * column) edges
 

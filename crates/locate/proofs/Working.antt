@@ -15,9 +15,9 @@ use Rattle.board.specs.Inner.{FactorIn, FitPlanes}
 use Rattle.edges.proofs.Laws.{edge-le}
 use Rattle.bounds.proofs.Laws as Bounds
 use Rattle.narrowings.specs.declared.Narrowed.{Narrowed}
-use Rattle.narrowings.specs.Loop.{edgesAt, boundsAt, Last, lastOf}
-use Rattle.narrowings.specs.Inner.{Looks, Narrows}
-use Rattle.narrowings.proofs.Looking.{edges-in}
+use Rattle.narrowings.specs.Loop.{Stage, edgesAt, boundsAt, Last, lastOf}
+use Rattle.narrowings.specs.Inner.{Narrows}
+use Rattle.narrowings.proofs.Looking.{edges-in, edges-part}
 use Rattle.narrowings.proofs.Turns.{spans, sound-around}
 use Rattle.locate.specs.declared.Located.{Located}
 use Rattle.locate.specs.Reference.{referenceOf}
@@ -29,8 +29,8 @@ use Rattle.locate.proofs.Scored.{sound, not-thin}
 
 module _ (b : Board) (f : ℕ) (before : Lent) (i : FactorIn f) (p : FitPlanes (leastLocated f) (b .height) (b .width) (before .planes))
     (room : NoneShort (b .height) (b .width) before)
-    {l : Narrowed} {planes' : List Float} {edges' : List ℕ}
-    (narrows : Narrows (b .height) (b .width) (lastOf f (b .height) (b .width) (before .planes)) l planes' edges')
+    {l : Narrowed} {planes' gradients' : List Float} {edges' : List ℕ}
+    (narrows : Narrows (b .height) (b .width) (lastOf f (b .height) (b .width) (before .planes)) l planes' gradients')
     (edged : AtFront (edgesAt (lastOf f (b .height) (b .width) (before .planes) .stage)) (before .edges) edges') where
   abbrev h : ℕ
   h = b .height
@@ -44,8 +44,11 @@ module _ (b : Board) (f : ℕ) (before : Lent) (i : FactorIn f) (p : FitPlanes (
   abbrev n : ℕ
   n = (l .height - 2) * (l .width - 2)
 
-  picture-is : take n edges' ≡ edgesAt (last .stage)
-  picture-is = rw (narrows .height-is, narrows .width-is) (narrows .looks .bytes-are)
+  abbrev s : Stage
+  s = last .stage
+
+  picture-is : take n edges' ≡ edgesAt s
+  picture-is = rw (narrows .height-is, narrows .width-is) (edges-part (s .height) (s .width) (s .planes) edged)
 
   planes-left : planes' ≡ referenceFor b f before .last .stage .planes
   unfolding referenceOf
@@ -61,12 +64,12 @@ module _ (b : Board) (f : ℕ) (before : Lent) (i : FactorIn f) (p : FitPlanes (
       → Works b f before r (lent planes' edges' (before .scores) f32 u8 u32)
   unfolding referenceOf
   works-small f32 u8 u32 ok e =
-      let s : last .tooSmall ≡ true = sym (narrows .small-is) ∙ ok in
+      let yes : last .tooSmall ≡ true = sym (narrows .small-is) ∙ ok in
       record {
-        located-is = rw (s, ← narrows .height-is, ← narrows .width-is, ← narrows .narrowed-is) e;
+        located-is = rw (yes, ← narrows .height-is, ← narrows .width-is, ← narrows .narrowed-is) e;
         planes-are = planes-left;
         edges-are = edges-left;
-        scores-are = rw s front-none;
+        scores-are = rw yes front-none;
       }
 
   -- the loop ended well
@@ -76,25 +79,25 @@ module _ (b : Board) (f : ℕ) (before : Lent) (i : FactorIn f) (p : FitPlanes (
 
     pub leads : Leads l edges' (length (before .scores)) (length (before .scratch-u8)) (length (before .scratch-u32))
     leads =
-        let s = sound f h w (before .planes) i p large in
-        let a = sound-around (omega arith) s in
-        let spans = spans (last .stage .height) (last .stage .width) (boundsAt (last .stage)) (not-thin f h w (before .planes) i p large) in
+        let good = sound f h w (before .planes) i p large in
+        let sides = good .fit .sides in
+        let wide = spans (s .height) (s .width) (boundsAt s) (not-thin f h w (before .planes) i p large) in
         let h-is = narrows .height-is in
         let w-is = narrows .width-is in
         let b-is = narrows .looks .bounds-are in
         record {
-          low-h = rw h-is (omega (arith, s .fit .sides .low-h));
-          high-h = rw h-is (s .fit .sides .high-h);
-          low-w = rw w-is (omega (arith, s .fit .sides .low-w));
-          high-w = rw w-is (s .fit .sides .high-w);
-          within = rw (h-is, w-is, b-is) (Bounds.within a);
-          rows = rw (h-is, b-is) (spans .0);
-          columns = rw (w-is, b-is) (spans .1);
-          there = rw (h-is, w-is) (edges-in (last .stage .height) (last .stage .width) (last .stage .planes) edged);
-          marks = λ k. rw picture-is (edge-le (last .stage .height) (last .stage .width) (last .stage .planes) k);
-          scores-in = omega (arith, h-is, w-is, s .high-h, s .high-w, room .scores-in);
+          low-h = rw h-is (omega (arith, sides .low-h));
+          high-h = rw h-is (sides .high-h);
+          low-w = rw w-is (omega (arith, sides .low-w));
+          high-w = rw w-is (sides .high-w);
+          within = rw (h-is, w-is, b-is) (Bounds.within (sound-around (omega arith) good));
+          rows = rw (h-is, b-is) (wide .0);
+          columns = rw (w-is, b-is) (wide .1);
+          there = rw (h-is, w-is) (edges-in (s .height) (s .width) (s .planes) edged);
+          marks = λ k. rw picture-is (edge-le (s .height) (s .width) (s .planes) k);
+          scores-in = omega (arith, h-is, w-is, good .high-h, good .high-w, room .scores-in);
           u8-in = omega (arith, narrows .area, room .u8-in);
-          u32-in = omega (arith, h-is, w-is, s .high-h, s .high-w, room .u32-in);
+          u32-in = omega (arith, h-is, w-is, good .high-h, good .high-w, room .u32-in);
         }
 
     pub works-read : {r : Located} {scores' : List ℕ} (f32 : List Float) (u8 u32 : List ℕ)

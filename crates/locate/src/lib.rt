@@ -261,7 +261,6 @@ fn work(
         planes,
         edges,
         scratch_f32,
-        scratch_u8,
     );
     if l.small {
         return declined(b.resized(l.height, l.width), 5, l.narrowed);

@@ -16,14 +16,14 @@ use Rattle.board.specs.Board.{leastPlaneSide, leastLocated}
 use Rattle.board.specs.Inner.{FactorIn, FitPlanes}
 use Rattle.board.proofs.Planes.{fit-lower}
 use Rattle.board.proofs.Sides.{neither}
-use Rattle.narrow.specs.Narrow.{narrow}
 use Rattle.narrow.proofs.Laws.{smaller, narrow-length, narrow-fit}
 use Rattle.gradient.proofs.Laws.{inner-le}
+use Rattle.edges.specs.Edges.{marks}
 use Rattle.bounds.proofs.Laws.{Around, around}
 use Rattle.narrowings.specs.declared.Narrowed.{Narrowed}
 use Rattle.narrowings.specs.Loop.{Stage, first, edgesAt, pictureAt, boundsAt, thin, small, next, Last, oneTurn, looped, lastOf}
 use Rattle.narrowings.specs.Inner.{Looks, Narrows}
-use Rattle.narrowings.proofs.Looking.{edges-part}
+use Rattle.narrowings.proofs.Looking.{edged}
 
 -- a picture that is not small
 pub large : (h w : ℕ) → small h w ≡ false → (67 ≤ h) × (67 ≤ w)
@@ -166,11 +166,11 @@ module _ (f : ℕ) (i : FactorIn f) where
         }
 
     -- what the code hands back where it ends at the screen t
-    narrows-at : (t : Stage) (end : Bool) {b : Bounds} {bytes : List ℕ} → lastOf f h w start ≡ record { stage = t; tooSmall = end }
+    narrows-at : (t : Stage) (end : Bool) {th : Float} {b : Bounds} {g′ : List Float} → lastOf f h w start ≡ record { stage = t; tooSmall = end }
         → leastPlaneSide ≤ t .height → leastPlaneSide ≤ t .width → t .height * t .width ≤ h * w
-        → Looks (t .height) (t .width) (t .planes) b bytes
+        → Looks (t .height) (t .width) (t .planes) th b g′
         → Narrows h w (lastOf f h w start)
-        (record { height = t .height; width = t .width; narrowed = t .narrowed; small = end; bounds = b }) (t .planes) bytes
+        (record { height = t .height; width = t .width; narrowed = t .narrowed; small = end; threshold = th; bounds = b }) (t .planes) g′
     narrows-at t end e a b n l =
         record {
           height-is = rw e;
@@ -184,47 +184,36 @@ module _ (f : ℕ) (i : FactorIn f) where
           looks = rw e l;
         }
 
-    pub narrows-end : {b : Bounds} {bytes : List ℕ} → Looks (s .height) (s .width) (s .planes) b bytes
+    pub narrows-end : {th : Float} {b : Bounds} {g′ : List Float} → Looks (s .height) (s .width) (s .planes) th b g′
         → thin (s .height) (s .width) b ≡ false
         → Narrows h w (lastOf f h w start)
-        (record { height = s .height; width = s .width; narrowed = s .narrowed; small = false; bounds = b }) (s .planes) bytes
+        (record { height = s .height; width = s .width; narrowed = s .narrowed; small = false; threshold = th; bounds = b }) (s .planes) g′
     narrows-end l p =
         let sides = g .sound .fit .sides in
         narrows-at s false (going-end (rw (l .bounds-are) at p)) (omega (arith, sides .low-h)) (omega (arith, sides .low-w))
         (g .sound .area) l
 
-    pub narrows-small : {b : Bounds} {bytes : List ℕ} → thin (s .height) (s .width) (boundsAt s) ≡ true
+    pub narrows-small : {th : Float} {b : Bounds} {g′ : List Float} → thin (s .height) (s .width) (boundsAt s) ≡ true
         → small (s .height / f) (s .width / f) ≡ true
         → let t = next f s in
-        Looks (t .height) (t .width) (t .planes) b bytes
+        Looks (t .height) (t .width) (t .planes) th b g′
         → Narrows h w (lastOf f h w start)
-        (record { height = t .height; width = t .width; narrowed = t .narrowed; small = true; bounds = b }) (t .planes) bytes
+        (record { height = t .height; width = t .width; narrowed = t .narrowed; small = true; threshold = th; bounds = b }) (t .planes) g′
     narrows-small p q l =
         let t = sound-next (g .sound) in
         narrows-at (next f s) true (going-small p q) (t .fit .sides .low-h) (t .fit .sides .low-w) (t .area) l
 
--- ---- the last picture's edges, where they are copied from the bytes
+-- ---- the last picture's edges
 
-module _ {h w : ℕ} {last : Last} {r : Narrowed} {planes : List Float} {bytes : List ℕ} (n : Narrows h w last r planes bytes) where
+module _ {h w : ℕ} {last : Last} {r : Narrowed} {planes g : List Float} (n : Narrows h w last r planes g) where
   -- there is room for them wherever there is room for the first picture
   pub points-fit : (r .height - 2) * (r .width - 2) ≤ h * w
   points-fit = omega (arith, inner-le (r .height) (r .width), n .area)
 
-  pub narrows-copied : {lent out : List ℕ} → AtFront (take ((r .height - 2) * (r .width - 2)) bytes) lent out
-      → Narrows h w last r planes out × AtFront (edgesAt (last .stage)) lent out
-  narrows-copied x =
+  -- they are drawn from the gradients that the loop leaves, by their threshold
+  pub last-edged : {lent out : List ℕ}
+      → let drawn = take ((r .height - 2) * (r .width - 2)) g in
+      AtFront (marks (r .threshold) (length drawn) drawn) lent out → AtFront (edgesAt (last .stage)) lent out
+  last-edged x =
       let s = last .stage in
-      let front = rw (n .height-is, n .width-is, n .looks .bytes-are) at x in (
-        record {
-          height-is = n .height-is;
-          width-is = n .width-is;
-          narrowed-is = n .narrowed-is;
-          small-is = n .small-is;
-          planes-are = n .planes-are;
-          low-h = n .low-h;
-          low-w = n .low-w;
-          area = n .area;
-          looks = record { bounds-are = n .looks .bounds-are; bytes-are = edges-part (s .height) (s .width) (s .planes) front };
-        },
-        front,
-      )
+      edged (s .height) (s .width) (s .planes) (n .looks .gradients-are) (n .looks .threshold-is) (rw (n .height-is, n .width-is) at x)

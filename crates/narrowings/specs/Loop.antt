@@ -24,7 +24,7 @@ staged h w planes n = record { height = h; width = w; planes = planes; narrowed 
 abbrev pub first : ℕ → ℕ → List Float → Stage
 first h w planes = staged h w planes 0
 
--- its edge picture, as bytes and as a picture, and the bounds of that
+-- a screen's edge picture, as bytes and as a picture, and the bounds of that
 abbrev pub edgesAt : Stage → List ℕ
 edgesAt s = edges (s .height) (s .width) (s .planes)
 

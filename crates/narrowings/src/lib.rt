@@ -36,70 +36,77 @@ fn small(height: usize, width: usize) -> bool
     width - 2 <= SMALL
 }
 
-// Gradient, edges and bounds of a screen. The gradients go into `scratch`, the edge picture to the front of `edges`.
-fn look(
-    height: usize,
-    width: usize,
-    planes: &[f32],
-    scratch: &mut [f32],
-    edges: &mut [u8],
-) -> Bounds
-    requires { ⌜ FitPlanes leastPlaneSide height width (now planes) ⌝ }
-    requires { ⌜ (height * width ≤ length (now scratch)) × (height * width ≤ length (now edges)) ⌝ }
-    ensures { λ r. ⌜ Looks height width (now (planes .entry)) r (now (edges .exit)) ⌝ }
+// What a look at a screen finds: its threshold, and the bounds of its edge picture.
+struct Seen {
+    threshold: f32,
+    bounds: Bounds,
+}
+
+// Gradient, threshold and bounds of a screen. The gradients go to the front of `scratch`; the bounds are those of the edge picture that
+// they make by the threshold, which is not drawn yet.
+fn look(height: usize, width: usize, planes: &[f32], scratch: &mut [f32]) -> Seen
+    requires { ⌜ FitPlanes leastPlaneSide height width (now planes) × (height * width ≤ length (now scratch)) ⌝ }
+    ensures { λ r. ⌜ Looks height width (now (planes .entry)) (r .threshold) (r .bounds) (now (scratch .exit)) ⌝ }
 {
     gradient::gradient_of(height, width, planes, scratch);
     let row = height - 2;
     let column = width - 2;
     let n = row * column;
-    edges::edges_of(row, column, &scratch[..n], edges);
-    bounds::get_r12c12(&edges[..n], row, column)
+    let th = edges::threshold_of(row, column, &scratch[..n]);
+    let b = bounds::get_r12c12(&scratch[..n], th, row, column);
+    Seen {
+        threshold: th,
+        bounds: b,
+    }
 }
 
-// Where the loop ends: the sides of the last picture, how often the screen was narrowed, whether it got too small, and the bounds of that
-// picture.
+// Where the loop ends: the sides of the last picture, how often the screen was narrowed, whether it got too small, and that picture's
+// threshold and bounds.
 pub struct Narrowed {
     pub height: usize,
     pub width: usize,
     pub narrowed: u32,
     pub small: bool,
+    pub threshold: f32,
     pub bounds: Bounds,
 }
 
-// Narrows the screen by the factor until both spans of its bounds are large enough, or until it is too small. `start` are the bounds of
-// the screen as it is, whose edge picture stands at the front of `bytes`; afterwards that of the last picture stands there.
+// Narrows the screen by the factor until both spans of its bounds are large enough, or until it is too small. `start` is a look at the
+// screen as it is, whose gradients stand at the front of `scratch`; afterwards those of the last picture stand there.
 fn narrow_on(
     factor: usize,
     height: usize,
     width: usize,
-    start: Bounds,
+    start: Seen,
     planes: &mut [f32],
     scratch: &mut [f32],
-    bytes: &mut [u8],
 ) -> Narrowed
-    requires { ⌜ FactorIn factor × FitPlanes (leastLocated factor) height width (now planes)
-        × Looks height width (now planes) start (now bytes) ⌝ }
-    requires { ⌜ (height * width ≤ length (now scratch)) × (height * width ≤ length (now bytes)) ⌝ }
+    requires { ⌜ FactorIn factor × FitPlanes (leastLocated factor) height width (now planes) ⌝ }
+    requires { ⌜ Looks height width (now planes) (start .threshold) (start .bounds) (now scratch) × (height * width ≤ length (now scratch)) ⌝ }
     ensures { λ r.
         let last = lastOf factor height width (now (planes .entry)) in
-        ⌜ Narrows height width last r (now (planes .exit)) (now (bytes .exit)) ⌝ }
+        ⌜ Narrows height width last r (now (planes .exit)) (now (scratch .exit)) ⌝ }
 {
     let mut h = height;
     let mut w = width;
-    let mut b = start;
+    let mut th = start.threshold;
+    let mut b = start.bounds;
     let mut n: u32 = 0;
     while thin(h, w, b) {
         narrow::narrow(factor, h, w, planes, scratch);
         h = h / factor;
         w = w / factor;
         n = n + 1;
-        b = look(h, w, planes, scratch, bytes);
+        let s = look(h, w, planes, scratch);
+        th = s.threshold;
+        b = s.bounds;
         if small(h, w) {
             return Narrowed {
                 height: h,
                 width: w,
                 narrowed: n,
                 small: true,
+                threshold: th,
                 bounds: b,
             };
         }
@@ -109,12 +116,12 @@ fn narrow_on(
         width: w,
         narrowed: n,
         small: false,
+        threshold: th,
         bounds: b,
     }
 }
 
-// The last picture. Its edge picture goes to the front of `edges`, which nothing else is written to: until the loop has ended, edge
-// pictures stand in `bytes`.
+// The last picture. Its edge picture is drawn to the front of `edges`, once and when the loop has ended: nothing else is written there.
 pub fn last_picture(
     factor: usize,
     height: usize,
@@ -122,19 +129,17 @@ pub fn last_picture(
     planes: &mut [f32],
     edges: &mut [u8],
     scratch: &mut [f32],
-    bytes: &mut [u8],
 ) -> Narrowed
     requires { ⌜ FactorIn factor × FitPlanes (leastLocated factor) height width (now planes) ⌝ }
-    requires { ⌜ (height * width ≤ length (now edges)) × (height * width ≤ length (now scratch))
-        × (height * width ≤ length (now bytes)) ⌝ }
+    requires { ⌜ (height * width ≤ length (now edges)) × (height * width ≤ length (now scratch)) ⌝ }
     ensures { λ r.
         let last = lastOf factor height width (now (planes .entry)) in
-        ⌜ Narrows height width last r (now (planes .exit)) (now (edges .exit))
+        ⌜ Narrows height width last r (now (planes .exit)) (now (scratch .exit))
         × AtFront (edgesAt (last .stage)) (now (edges .entry)) (now (edges .exit)) ⌝ }
 {
-    let start = look(height, width, planes, scratch, bytes);
-    let l = narrow_on(factor, height, width, start, planes, scratch, bytes);
+    let start = look(height, width, planes, scratch);
+    let l = narrow_on(factor, height, width, start, planes, scratch);
     let n = (l.height - 2) * (l.width - 2);
-    lists::copy_u8(bytes, n, edges);
+    edges::mark(l.threshold, &scratch[..n], edges);
     l
 }

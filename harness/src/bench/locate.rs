@@ -3,6 +3,7 @@
 
 use super::screen::Kind;
 use super::{least, timed};
+use crate::original::locate::answer_of;
 use crate::original::probe::OWN_FACTOR;
 use crate::original::{load, probed, ImageBoard};
 use crate::port::{self, Located, Slices};
@@ -45,17 +46,20 @@ impl Room {
     }
 }
 
-/// Both came to the same record, and the screen was as its kind says. The record of a narrowed screen is
-/// that of the copy that goes on with the edge picture of the last narrowing, as the port does.
+/// Both came to the same record, and the screen was as its kind says. On a narrowed screen the Rust that is
+/// measured goes on with the first edge picture; there the record is compared with that of the copy that
+/// goes on with the last one, as the port does.
 fn checked(kind: Kind, sides: [usize; 2], board: &ImageBoard, located: &Located) {
     let mut record = load::record(board);
     assert_eq!((record.height, record.width), (located.board.height, located.board.width));
     if located.narrowed > 0 {
         let numbers = load::numbers(&kind.pixels(sides[0], sides[1]));
-        record = probed::locate(numbers, sides[0], sides[1], OWN_FACTOR).record;
+        let ran = probed::locate(numbers, sides[0], sides[1], OWN_FACTOR);
+        assert_eq!(answer_of(&ran), Some(located.answer));
+        record = ran.record;
     }
     if located.answer == 0 {
-        assert_eq!(record, located.board.record(), "both did the same work");
+        assert_eq!(record, located.board.record());
     }
     match kind {
         Kind::Clean | Kind::Noisy => assert_eq!((located.answer, located.narrowed), (0, 0)),

@@ -21,6 +21,21 @@ fn side(rng: &mut Rng, least: usize, most: usize) -> usize {
     }
 }
 
+/// The port's bounds of an edge picture: by gradients that are at least the threshold where a point is
+/// set, the threshold itself and the next value below it among them.
+fn bounds_by_gradients(edges: &[u8], row: usize, column: usize) -> Corners {
+    const THRESHOLD: f32 = 0.3;
+    let below = f32::from_bits(THRESHOLD.to_bits() - 1);
+    let level = |at: usize, set: bool| match (set, at % 3) {
+        (true, 0) => 24.0,
+        (true, _) => THRESHOLD,
+        (false, 0) => 0.0,
+        (false, _) => below,
+    };
+    let gradients: Vec<f32> = edges.iter().enumerate().map(|(at, &e)| level(at, e == 1)).collect();
+    inner::bounds(&gradients, THRESHOLD, row, column)
+}
+
 fn shown(edges: &[u8], column: usize) -> String {
     if edges.len() > 400 {
         return String::new();
@@ -34,7 +49,7 @@ pub fn bounds(run: &Run) -> Outcome {
     let mut one = |edges: &[u8], row: usize, column: usize| {
         count += 1;
         let [r_1, r_2, c_1, c_2, ..] = steps::bounds(&points(&edges[..row * column], column));
-        let (want, have) = (corners([r_1, r_2, c_1, c_2]), inner::bounds(edges, row, column));
+        let (want, have) = (corners([r_1, r_2, c_1, c_2]), bounds_by_gradients(edges, row, column));
         if want == have {
             return Ok(());
         }
@@ -85,13 +100,13 @@ pub fn widen(run: &Run) -> Outcome {
     for _ in 0..run.choose(15_000, 300_000) {
         count += 1;
         let (row, column) = (side(rng, 10, 140), side(rng, 10, 140));
-        // the picture may be larger than the sides
+        // the picture may be larger than the sides, as the unchanged Rust has it after a narrowing
         let (more_rows, more_columns) =
             if rng.below(3) == 0 { (rng.below(30), rng.below(30)) } else { (0, 0) };
         let stride = column + more_columns;
         let edges = marks(rng, row + more_rows, stride);
         let picture = points(&edges, stride);
-        let scanned = inner::bounds(&edges, row + more_rows, stride);
+        let scanned = bounds_by_gradients(&edges, row + more_rows, stride);
         let fits = more_rows == 0
             && more_columns == 0
             && scanned.r_2 - scanned.r_1 > row / 3

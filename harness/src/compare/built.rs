@@ -16,6 +16,13 @@ pub struct End {
 #[derive(Debug)]
 enum Look {
     Blank,
+    /// Black at the left, white at the right.
+    Halves,
+    /// Texture with a flat bar, and a board at the top left, where the first edge picture has it after a
+    /// narrowing.
+    Textured {
+        seed: u64,
+    },
     /// A board and a flat bar, which as many narrowings close.
     Zoomed {
         seed: u64,
@@ -44,6 +51,10 @@ impl Built {
         let (height, width) = (self.height, self.width);
         match self.look {
             Look::Blank => screens::blank(height, width, 100),
+            Look::Halves => screens::halves(height, width),
+            Look::Textured { seed } => {
+                screens::textured(&mut Rng::new(seed), height, width, self.factor)
+            }
             Look::Zoomed { seed, narrowings } => {
                 screens::zoomed(&mut Rng::new(seed), height, width, self.factor, narrowings)
             }
@@ -75,6 +86,12 @@ const fn blank(factor: usize, sides: [usize; 2]) -> Built {
     Built { height: sides[0], width: sides[1], factor, end, look: Look::Blank }
 }
 
+/// Too small after as many narrowings, with edges.
+const fn halves(factor: usize, sides: [usize; 2], narrowings: u32) -> Built {
+    let end = End { answer: Some(5), returns: true, narrowed: narrowings };
+    Built { height: sides[0], width: sides[1], factor, end, look: Look::Halves }
+}
+
 /// A panic where the planes are to be narrowed, or in the step after that.
 const fn panics(factor: usize, sides: [usize; 2]) -> Built {
     Built { end: End { answer: None, returns: false, narrowed: 0 }, ..blank(factor, sides) }
@@ -85,6 +102,12 @@ const fn zoomed(factor: usize, sides: [usize; 2], narrowings: u32, seed: u64) ->
     let end = End { answer: Some(0), returns: true, narrowed: narrowings };
     let look = Look::Zoomed { seed, narrowings };
     Built { height: sides[0], width: sides[1], factor, end, look }
+}
+
+/// Read after one narrowing; what the unchanged Rust reads is the board at the top left.
+const fn textured(sides: [usize; 2], seed: u64) -> Built {
+    let look = Look::Textured { seed };
+    Built { look, ..zoomed(OWN_FACTOR, sides, 1, seed) }
 }
 
 /// The same screen by another factor.
@@ -106,7 +129,14 @@ pub const DEPARTURES: &[Built] = &[
     board([55, 42], [2, 3], [4, 12], 8),
     board([647, 60], [5, 4], [210, 12], 9),
     SMALL,
+    halves(2, [134, 150], 2),
+    halves(3, [40, 44], 1),
+    halves(3, [620, 640], 3),
+    halves(4, [270, 280], 2),
+    halves(5, [340, 350], 2),
     zoomed(3, [240, 260], 1, 1),
+    textured([240, 260], 1),
+    textured([240, 260], 2),
     // factors that the port refuses
     by(0, SMALL),
     panics(0, [40, 44]),

@@ -1,6 +1,7 @@
 //! Lent slices with a margin on both sides, so that a write outside them shows.
 
 use std::fmt::LowerHex;
+use std::sync::atomic::{AtomicUsize, Ordering};
 
 const MARGIN: usize = 16;
 
@@ -45,11 +46,16 @@ impl Entry for u32 {
 pub struct Lent<T> {
     whole: Vec<T>,
     len: usize,
+    /// What `before` counts from: unlike for each, so that what is copied from one to another shows.
+    from: usize,
 }
+
+static FROM: AtomicUsize = AtomicUsize::new(0);
 
 impl<T: Entry> Lent<T> {
     pub fn new(len: usize) -> Lent<T> {
-        Lent { whole: (0..len + 2 * MARGIN).map(T::before).collect(), len }
+        let from = FROM.fetch_add(5, Ordering::Relaxed);
+        Lent { whole: (from..from + len + 2 * MARGIN).map(T::before).collect(), len, from }
     }
 
     /// The first entries have these values.
@@ -70,7 +76,7 @@ impl<T: Entry> Lent<T> {
         for (at, have) in self.whole.iter().enumerate() {
             let want = if (MARGIN..MARGIN + self.len).contains(&at) { wanted.next() } else { None };
             let whose = if want.is_some() { "wanted" } else { "to be kept" };
-            let (want, have) = (want.unwrap_or(T::before(at)).bits(), have.bits());
+            let (want, have) = (want.unwrap_or(T::before(self.from + at)).bits(), have.bits());
             if want != have {
                 let place = at as isize - MARGIN as isize;
                 return Some(format!("{name} entry {place}: {whose} {want:x}, port {have:x}"));

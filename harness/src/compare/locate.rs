@@ -1,7 +1,7 @@
 //! Locating beside `get_pos_pixel`, with each factor: every field, the planes, the edge picture of the
 //! last picture and both score lists. All comes from the probed copy, which narrows by the factor and goes
 //! on with that picture; with the factor of the unchanged file this is run too, and must do the same on
-//! every screen that is not narrowed.
+//! every screen that is not narrowed or gets too small, and on the others what the first edge picture gives.
 
 use super::built::{Built, End, DEPARTURES, LARGE, READ_NARROWED};
 use super::lent::Lent;
@@ -257,7 +257,7 @@ const ROWS: &[Row] = &[
 struct ByFactor {
     /// How many were read after 0, 1, 2 and more narrowings.
     read_after: [u64; 4],
-    /// How many after some narrowing with bounds that the widening had moved.
+    /// How many after some narrowing with a bound that the widening had moved, and not out to the rim.
     widened: u64,
     /// How many were narrowed with so many rows, and so many columns, left over.
     left_over: [[u64; 5]; 2],
@@ -270,6 +270,8 @@ struct Cases {
     /// From factor 2 on.
     by_factor: [ByFactor; 4],
     met: Met,
+    /// Built cases on which the unchanged file came to another record.
+    moved: u64,
     /// Of the last case, if the Rust was run on it.
     end: Option<End>,
 }
@@ -283,7 +285,7 @@ struct Wanted {
     returns: bool,
     /// Whether the Rust leaves a pitch of the rows.
     rows_read: bool,
-    /// Whether the widening moved a bound.
+    /// Whether the widening moved a bound, and not out to the rim.
     widened: bool,
     /// Whether the unchanged file was run, and came to another record.
     moved: bool,
@@ -297,6 +299,7 @@ impl Cases {
             answers: [0; ANSWERS],
             by_factor: [ByFactor::default(); 4],
             met: Met::new("locating", ROWS)?,
+            moved: 0,
             end: None,
         })
     }
@@ -320,6 +323,9 @@ impl Cases {
     /// was read after one narrowing or after two, or with bounds that were widened then, or where some
     /// number of rows or columns was never left over.
     fn note(&self) -> Result<String, String> {
+        if self.moved == 0 {
+            return Err("the unchanged file came to the port's record on every built case".into());
+        }
         let mut answers = vec![];
         let mut reads = vec![];
         for (answer, count) in self.answers.iter().enumerate().filter(|(_, &count)| count > 0) {
@@ -339,8 +345,8 @@ impl Cases {
             reads.push(format!("by {factor} {:?}, {} widened", met.read_after, met.widened));
         }
         Ok(format!(
-            "; answers {}; read after 0, 1, 2 and more narrowings, and after some with bounds that the \
-             widening had moved: {}{}",
+            "; answers {}; read after 0, 1, 2 and more narrowings, and after some with a bound that was \
+             widened into a margin: {}{}",
             answers.join(", "),
             reads.join("; "),
             self.met.note()?
@@ -368,8 +374,9 @@ impl Cases {
             }
             self.of(factor).widened += (answer == 0 && widened) as u64;
         }
-        if moved {
+        if narrowed > 0 && answer != 5 && call.factor == OWN_FACTOR {
             self.met.count(LAST_EDGES);
+            self.moved += (moved && self.met.built) as u64;
         }
         match (answer, returns) {
             (5, _) => self.met.count(TOO_SMALL),
@@ -439,7 +446,7 @@ impl Cases {
         self.any_by(factor, height, width)
     }
 
-    /// Noise, a drawn board with or without noise, one colour, or texture.
+    /// Noise, a drawn board with or without noise, one colour, texture, or a large board with a bar.
     fn any_by(&mut self, factor: usize, height: usize, width: usize) -> Result<(), String> {
         let rng = &mut self.rng;
         let pixels = match rng.below(16) {
@@ -672,10 +679,21 @@ fn wanted(pixels: &[u8], call: &Call) -> Result<Wanted, String> {
         [located.quarterr, located.quarterc] = run.quarters();
         [located.votesr, located.votesc] = run.votes();
     }
+    let (widened, moved) = (into_margin(&run), run.moved);
     let scores = run.seen.scores.map_or(vec![], |(columns, rows)| [columns, rows].concat());
     let (edges, returns, rows_read) = (run.seen.edges, run.whole, rust.pixelr != 0);
-    let (widened, moved) = (run.seen.scanned != run.seen.widened, run.moved);
     Ok(Wanted { located, planes: run.planes, edges, scores, returns, rows_read, widened, moved })
+}
+
+/// Whether the widening moved a bound to a place that is nearly empty. Where there is none it goes to the
+/// second place, or to the last but one.
+fn into_margin(run: &Traced) -> bool {
+    let (Some(scanned), Some(widened)) = (run.seen.scanned, run.seen.widened) else {
+        return false;
+    };
+    let [row, column] = [run.record.height, run.record.width].map(|side| side - 2);
+    let rims = [1, row - 2, 1, column - 2];
+    (0..4).any(|k| widened[k] != scanned[k] && widened[k] != rims[k])
 }
 
 /// What docs/DIFFERENCES.md says of the Rust's record: where it returns with pitches, all fields are

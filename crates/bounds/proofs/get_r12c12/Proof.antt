@@ -3,6 +3,7 @@ use native.Mathlib.Nat.{le-refl}
 use denote.Ref.{now}
 use Rattle.bounds.specs.declared.Way.the-variants.{Near, Far}
 use Rattle.bounds.specs.Scan.{bound}
+use Rattle.bounds.specs.Inner.{marksBy}
 use Rattle.bounds.proofs.Views.{columns-lie, rows-lie, of-columns, of-rows}
 use borrow.Author.Needs.{needs}
 use Rattle.bounds.proofs.get_r12c12.Statement.{statement}
@@ -44,7 +45,7 @@ returns c =
     let r-2 = c-1 .before .before in
     let r-1 = r-2 .before .before in
     let a = r-1 .before .before .before .args in
-    let E = now (a .edges) in
+    let E = marksBy (a .th) (now (a .g)) in
     let is-r-1 = of-rows bound Near (a .row) (a .column) (a .column) E (r-1 .bound-of .ensures) (r-1 .before .rows .ensures) in
     let is-r-2 = of-rows bound Far (a .row) (a .column) (a .column) E (r-2 .bound-of2 .ensures) (r-2 .before .rows2 .ensures) in
     let is-c-1 = of-columns bound Near (a .row) (a .column) (a .column) E (c-1 .bound-of3 .ensures) (c-1 .before .columns .ensures) in

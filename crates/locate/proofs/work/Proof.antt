@@ -19,10 +19,10 @@ use Rattle.locate.proofs.work.Tie as tie
 
 -- the places that the others follow
 abbrev at-start : tie.After-last-picture → tie.Start
-at-start c = c .before .before .before .before .before .before .before .before .before .before .before
+at-start c = c .before .before .before .before .before .before .before .before .before .before
 
 abbrev at-last : tie.Else1 → tie.After-last-picture
-at-last c = c .before .before .before .before .before .before .before .before .before
+at-last c = c .before .before .before .before .before .before .before
 
 abbrev at-read : tie.After-read-from → tie.Else1
 at-read c = c .before .before .before .before .before
@@ -50,7 +50,7 @@ room c = at-start c .pre .1
 
 narrows : (c : tie.After-last-picture)
     → Narrows (board c .height) (board c .width) (lastOf (factor c) (board c .height) (board c .width) (slices c .planes))
-    (c .last-picture .result) (c .last-picture .last .1 .1 .1 .0) (c .last-picture .last .1 .1 .1 .1 .0)
+    (c .last-picture .result) (c .last-picture .last .1 .1 .1 .0) (c .last-picture .last .1 .1 .1 .1 .1 .0)
 narrows c = c .last-picture .ensures .0
 
 edged : (c : tie.After-last-picture)
@@ -60,8 +60,8 @@ edged c = c .last-picture .ensures .1
 
 last-picture-requires : tie.Need-last-picture-requires
 last-picture-requires c κs =
-    let ask = c .before .before .before .before .before .before .before .before .before .before .pre in
-    (ask .0, (ask .1 .edges-in, ask .1 .f32-in, ask .1 .u8-in))
+    let ask = c .before .before .before .before .before .before .before .before .before .pre in
+    (ask .0, (ask .1 .edges-in, ask .1 .f32-in))
 
 resized-requires : tie.Need-resized-requires
 resized-requires c κs = search needs
@@ -78,12 +78,9 @@ same-length-2 c = search needs
 same-length-3 : tie.Need-same-length-3
 same-length-3 c = search needs
 
-same-length-4 : tie.Need-same-length-4
-same-length-4 c = search needs
-
 returns : tie.Need-returns
 returns c =
-    let at = c .before .before .before .before .before .before .before .before .before .before .before in
+    let at = c .before .before .before .before .before .before .before .before .before in
     works-small (board at) (factor at) (slices at) (factor-in at) (fits at) (room at) (narrows at) (edged at) _ _ _
     (c .before .before .if1 .taken)
     (rw (c .before .resized .ensures) at (c .declined .ensures))
@@ -92,10 +89,10 @@ read-from-requires : tie.Need-read-from-requires
 read-from-requires c κs =
     let other = c .before .before .before .before in
     let at = at-last other in
-    let same : length (at .last-picture .last .1 .1 .1 .1 .1 .1 .0) ≡ length (slices at .scratch-u8) =
-    omega (arith, at .last-picture .kept) in
-    rw same
-    (leads (board at) (factor at) (slices at) (factor-in at) (fits at) (room at) (narrows at) (edged at) (other .if1 .left))
+    leads (board at) (factor at) (slices at) (factor-in at) (fits at) (room at) (narrows at) (edged at) (other .if1 .left)
+
+same-length-4 : tie.Need-same-length-4
+same-length-4 c = search needs
 
 same-length-5 : tie.Need-same-length-5
 same-length-5 c = search needs
@@ -111,9 +108,6 @@ same-length-8 c = search needs
 
 same-length-9 : tie.Need-same-length-9
 same-length-9 c = search needs
-
-same-length-10 : tie.Need-same-length-10
-same-length-10 c = search needs
 
 returns-2 : tie.Need-returns-2
 returns-2 c =
@@ -132,13 +126,12 @@ work-spec =
     same-length
     same-length-2
     same-length-3
-    same-length-4
     returns
     read-from-requires
+    same-length-4
     same-length-5
     same-length-6
     same-length-7
     same-length-8
     same-length-9
-    same-length-10
     returns-2)

@@ -1,5 +1,5 @@
--- `narrowings::narrow_on` meets its contract. The invariant: the loop from the start is the loop from here, and the bytes hold the edge
--- picture of the screen as it is. The height falls.
+-- `narrowings::narrow_on` meets its contract. The invariant: the loop from the start is the loop from here, and the look is one at the
+-- screen as it is. The height falls.
 use Prim.Native.Nat.{_/_}
 use mathlib.Core.Path.{_≡_, refl, sym, _∙_}
 use mathlib.Core.Bool.{true, false}
@@ -18,14 +18,13 @@ use Rattle.narrowings.proofs.narrow_on.Statement.{statement}
 use Rattle.narrowings.proofs.narrow_on.Tie as tie
 
 abbrev Inv-loop : tie.InvT-loop
-Inv-loop f height width planes₀ f32₀ u8₀ h₀ w₀ b₀ n₀ planes f32 u8 h w b n =
+Inv-loop f height width planes₀ g₀ h₀ w₀ th₀ b₀ n₀ planes g h w th b n =
     Going f height width planes₀ (staged h w planes n)
-    × Looks h w planes b u8
-    × (length f32 ≡ length f32₀)
-    × (length u8 ≡ length u8₀)
+    × Looks h w planes th b g
+    × (length g ≡ length g₀)
 
 abbrev μ-loop : tie.MeasureT-loop
-μ-loop f height width planes₀ f32₀ u8₀ h₀ w₀ b₀ n₀ planes f32 u8 h w b n = h
+μ-loop f height width planes₀ g₀ h₀ w₀ th₀ b₀ n₀ planes g h w th b n = h
 
 -- the places that the others follow
 abbrev at-start : tie.At-loop Inv-loop μ-loop → tie.Start Inv-loop μ-loop
@@ -35,10 +34,10 @@ abbrev at-loop : tie.After-narrow Inv-loop μ-loop → tie.At-loop Inv-loop μ-l
 at-loop c = c .before .before .before .before .before
 
 abbrev at-narrow : tie.After-look Inv-loop μ-loop → tie.After-narrow Inv-loop μ-loop
-at-narrow c = c .before .before .before .before .before .before .before .before
+at-narrow c = c .before .before .before .before .before .before .before
 
 abbrev at-look : tie.After-small Inv-loop μ-loop → tie.After-look Inv-loop μ-loop
-at-look c = c .before .before .before .before .before
+at-look c = c .before .before .before .before
 
 -- after a narrowing: the screen before it, what holds of it, and what was asked at the start
 abbrev begun : tie.After-narrow Inv-loop μ-loop → tie.Start Inv-loop μ-loop
@@ -66,7 +65,7 @@ sound-now c = sound-next _ (asked c) (sound c)
 
 looks : (c : tie.After-look Inv-loop μ-loop) → let m = at-narrow c in
     let s = next (begun m .args .factor) (here m) in
-    Looks (s .height) (s .width) (s .planes) (c .look .result) (c .look .last .1 .1 .1 .1 .0)
+    Looks (s .height) (s .width) (s .planes) (c .look .result .threshold) (c .look .result .bounds) (c .look .last .1 .1 .1 .0)
 looks c = rw (at-narrow c .narrow .ensures .0) at (c .look .ensures)
 
 -- not too small, so that the loop goes on
@@ -76,7 +75,7 @@ goes-on : (c : tie.Else2 Inv-loop μ-loop) → let m = at-narrow (at-look (c .be
 goes-on c = sym (c .before .small .ensures) ∙ c .if2 .left
 
 loop-holds : tie.Need-loop-holds Inv-loop μ-loop
-loop-holds c = let ask = c .before .before .before .pre .0 in (going-first (ask .1), ask .2, refl, refl)
+loop-holds c = let ask = c .before .before .before .pre in (going-first (ask .0 .1), ask .1 .0, refl)
 
 thin-requires : tie.Need-thin-requires Inv-loop μ-loop
 thin-requires c κs =
@@ -91,7 +90,7 @@ narrow-requires c κs =
     let at = c .before .before .before .before in
     let inv = at .loop .inv in
     let s = inv .0 .sound in
-    (fit-lower 0 (omega arith) (s .fit), at-start at .pre .0 .0, omega (arith, s .area, inv .2, at-start at .pre .1 .0))
+    (fit-lower 0 (omega arith) (s .fit), at-start at .pre .0 .0, omega (arith, s .area, inv .2, at-start at .pre .1 .1))
 
 div-h : tie.Need-div-h Inv-loop μ-loop
 div-h c = search (needs, asked (c .before .before .before .before) .low)
@@ -106,17 +105,13 @@ add-n c =
 
 look-requires : tie.Need-look-requires Inv-loop μ-loop
 look-requires c κs =
-    let m = c .before .before .before .before .before .before .before in
+    let m = c .before .before .before .before .before .before in
     let s = sound-now m in
-    let inv = at-loop m .loop .inv in
-    let ask = begun m .pre .1 in (
-      rw (m .narrow .ensures .0) (s .fit),
-      (omega (arith, s .area, inv .2, ask .0), omega (arith, s .area, inv .3, ask .1)),
-    )
+    (rw (m .narrow .ensures .0) (s .fit), omega (arith, s .area, at-loop m .loop .inv .2, begun m .pre .1 .1))
 
 small-requires : tie.Need-small-requires Inv-loop μ-loop
 small-requires c κs =
-    let s = sound-now (at-narrow (c .before .before .before .before)) .fit .sides in
+    let s = sound-now (at-narrow (c .before .before .before)) .fit .sides in
     (omega (arith, s .low-h), omega (arith, s .low-w))
 
 same-length : tie.Need-same-length Inv-loop μ-loop
@@ -124,9 +119,6 @@ same-length c = search needs
 
 same-length-2 : tie.Need-same-length-2 Inv-loop μ-loop
 same-length-2 c = search needs
-
-same-length-3 : tie.Need-same-length-3 Inv-loop μ-loop
-same-length-3 c = search needs
 
 returns : tie.Need-returns Inv-loop μ-loop
 returns c =
@@ -148,17 +140,13 @@ loop-again c =
       rw (m .narrow .ensures .0) (going-on _ (asked m) (inv .0) (is-thin m) (goes-on c)),
       l .look .ensures,
       omega (arith, inv .2),
-      omega (arith, inv .3),
     )
+
+same-length-3 : tie.Need-same-length-3 Inv-loop μ-loop
+same-length-3 c = search needs
 
 same-length-4 : tie.Need-same-length-4 Inv-loop μ-loop
 same-length-4 c = search needs
-
-same-length-5 : tie.Need-same-length-5 Inv-loop μ-loop
-same-length-5 c = search needs
-
-same-length-6 : tie.Need-same-length-6 Inv-loop μ-loop
-same-length-6 c = search needs
 
 returns-2 : tie.Need-returns-2 Inv-loop μ-loop
 returns-2 c =
@@ -181,11 +169,9 @@ narrow-on-spec =
     small-requires
     same-length
     same-length-2
-    same-length-3
     returns
     loop-less
     loop-again
+    same-length-3
     same-length-4
-    same-length-5
-    same-length-6
     returns-2)

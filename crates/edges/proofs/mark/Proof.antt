@@ -1,4 +1,4 @@
--- `edges::edges_of` meets its contract. The invariant: the marks of the first k gradients stand at the front. What is left of
+-- `edges::mark` meets its contract. The invariant: the marks of the first k gradients stand at the front. What is left of
 -- the gradients falls.
 use Prim.Native.Nat.{ℕ, _-_, _*_, _≤_}
 use mathlib.Core.Path.{_≡_, sym}
@@ -12,29 +12,17 @@ use Rattle.lists.specs.Picture.{bit}
 use Rattle.lists.proofs.Front.{front-none, front-more}
 use Rattle.edges.specs.Edges.{marks}
 use borrow.Author.Needs.{needs}
-use Rattle.edges.proofs.edges_of.Statement.{statement}
-use Rattle.edges.proofs.edges_of.Tie as tie
+use Rattle.edges.proofs.mark.Statement.{statement}
+use Rattle.edges.proofs.mark.Tie as tie
 
 abbrev Inv-loop : tie.InvT-loop
-Inv-loop row column g out₀ th k₀ k-end out k = (k ≤ length g) × AtFront (marks th k g) out₀ out
+Inv-loop th g out₀ k₀ k-end out k = (k ≤ length g) × AtFront (marks th k g) out₀ out
 
 abbrev μ-loop : tie.MeasureT-loop
-μ-loop row column g out₀ th k₀ k-end out k = length g - k
-
--- the places that the others follow
-abbrev at-threshold : tie.At-loop Inv-loop μ-loop → tie.After-threshold-of Inv-loop μ-loop
-at-threshold c = c .before
+μ-loop th g out₀ k₀ k-end out k = length g - k
 
 abbrev at-start : tie.At-loop Inv-loop μ-loop → tie.Start Inv-loop μ-loop
-at-start c = at-threshold c .before .before .before
-
--- the marks by other names of the threshold and of their number
-marks-all : {th t : Float} {k n : ℕ} (g : List Float) {before after : List ℕ} → th ≡ t → k ≡ n → AtFront (marks th k g) before after
-    → AtFront (marks t n g) before after
-marks-all g e d h = rw (sym e, sym d) h
-
-threshold-of-requires : tie.Need-threshold-of-requires Inv-loop μ-loop
-threshold-of-requires c κs = search needs
+at-start c = c .before .before .before
 
 loop-holds : tie.Need-loop-holds Inv-loop μ-loop
 loop-holds c = (omega arith, front-none)
@@ -60,9 +48,8 @@ loop-less c = search needs
 loop-again : tie.Need-loop-again Inv-loop μ-loop
 loop-again c =
     let at = c .before .before .before in
-    let th = at-threshold at .threshold-of .result in
-    let g = now (at-start at .args .g) in
-    (omega arith, front-more (λ k. bit (le th (getD g k nan))) _ (at .loop .inv .1) (omega arith) (c .at-most .ensures))
+    let a = at-start at .args in
+    (omega arith, front-more (λ k. bit (le (a .th) (getD (now (a .g)) k nan))) _ (at .loop .inv .1) (omega arith) (c .at-most .ensures))
 
 same-length : tie.Need-same-length Inv-loop μ-loop
 same-length c = search needs
@@ -70,17 +57,15 @@ same-length c = search needs
 returns : tie.Need-returns Inv-loop μ-loop
 returns c =
     let at = c .before in
-    let a = at-start at .args in
-    let e : at .loop .k ≡ a .row * a .column = omega arith in
-    marks-all (now (a .g)) (at-threshold at .threshold-of .ensures) e (at .loop .inv .1)
+    let e : at .loop .k ≡ length (now (at-start at .args .g)) = omega arith in
+    rw e at (at .loop .inv .1)
 
-pub edges-of-spec : {M : Type 1} → statement M
-edges-of-spec =
+pub mark-spec : {M : Type 1} → statement M
+mark-spec =
     tie.close
     (tie.spec
     Inv-loop
     μ-loop
-    threshold-of-requires
     loop-holds
     mul-at-most
     shared-slice-read-at-most
