@@ -19,6 +19,10 @@ seen v e p m = points (v .down) (v .right) e p (place (v .way) (v .along) m)
 abbrev pub marksBy : Float → List Float → List ℕ
 marksBy th g = marks th (length g) g
 
+-- a point of their picture
+abbrev pub steep : View → Float → List Float → ℕ → ℕ → Bool
+steep v th g = seen v (marksBy th g)
+
 -- the middle third across, without `high`
 abbrev pub low : View → ℕ
 low v = v .across / 3

@@ -11,7 +11,7 @@ ghost use Rattle.bounds.specs.Bounds as Spec;
 ghost use Rattle.bounds.specs.Bounds.{boundsOf, BoundsIn};
 ghost use Rattle.bounds.specs.Scan as Scan;
 ghost use Rattle.bounds.specs.Scan.{skips, move, place, bound};
-ghost use Rattle.bounds.specs.Inner.{seen, marksBy, low, high, Lies, columnsOf, rowsOf};
+ghost use Rattle.bounds.specs.Inner.{seen, marksBy, steep, low, high, Lies, columnsOf, rowsOf};
 ghost use Rattle.bounds.specs.Widen.{second, pair, sumAt, lowered, widened};
 use board::Bounds;
 
@@ -68,7 +68,7 @@ fn is_set(e: &[u8], v: View, p: usize, m: usize) -> bool
 // The same of the gradients: the point is set if its gradient is at least the threshold.
 fn is_steep(g: &[f32], th: f32, v: View, p: usize, m: usize) -> bool
     requires { ⌜ Lies v (length (now g)) × (p < v .across) × (m < v .along) ⌝ }
-    ensures { λ r. ⌜ r ≡ seen v (marksBy th (now (g .entry))) p m ⌝ }
+    ensures { λ r. ⌜ r ≡ steep v th (now (g .entry)) p m ⌝ }
 {
     let q = place_of(v, m);
     let at = p * v.down + q * v.right;
@@ -78,7 +78,7 @@ fn is_steep(g: &[f32], th: f32, v: View, p: usize, m: usize) -> bool
 // The place across of the fifth set point at the distance m; the end of the middle third where there are fewer.
 fn fifth(g: &[f32], th: f32, v: View, m: usize) -> usize
     requires { ⌜ Lies v (length (now g)) × (m < v .along) ⌝ }
-    ensures { λ r. ⌜ r ≡ Scan.fifth (seen v (marksBy th (now (g .entry)))) (low v) (high v) m ⌝ }
+    ensures { λ r. ⌜ r ≡ Scan.fifth (steep v th (now (g .entry))) (low v) (high v) m ⌝ }
 {
     let hi = 2 * v.across / 3;
     // set points to pass before the fifth
@@ -97,7 +97,7 @@ fn fifth(g: &[f32], th: f32, v: View, m: usize) -> usize
 // The first skip of 1 to 3 from the distance m to five set points.
 fn skip_from(g: &[f32], th: f32, v: View, m: usize) -> Move
     requires { ⌜ Lies v (length (now g)) × (m < v .along) ⌝ }
-    ensures { λ r. ⌜ r ≡ skips (seen v (marksBy th (now (g .entry)))) (low v) (high v) m 1 3 ⌝ }
+    ensures { λ r. ⌜ r ≡ skips (steep v th (now (g .entry))) (low v) (high v) m 1 3 ⌝ }
 {
     for skip in 1..4 {
         if m <= skip {
@@ -115,7 +115,7 @@ fn skip_from(g: &[f32], th: f32, v: View, m: usize) -> Move
 // One move of the scan from the distance m and the place p across.
 fn move_from(g: &[f32], th: f32, v: View, m: usize, p: usize) -> Move
     requires { ⌜ Lies v (length (now g)) × (m < v .along) × (p < v .across) ⌝ }
-    ensures { λ r. ⌜ r ≡ move (seen v (marksBy th (now (g .entry)))) (low v) (high v) m p ⌝ }
+    ensures { λ r. ⌜ r ≡ move (steep v th (now (g .entry))) (low v) (high v) m p ⌝ }
 {
     if m == 0 {
         return Move::Stop;

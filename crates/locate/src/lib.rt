@@ -254,14 +254,7 @@ fn work(
         (now («scratch_f32» .exit)) (now («scratch_u8» .exit)) (now («scratch_u32» .exit)) in
         ⌜ Works b factor before r after ⌝ }
 {
-    let l = narrowings::last_picture(
-        factor,
-        b.height,
-        b.width,
-        planes,
-        edges,
-        scratch_f32,
-    );
+    let l = narrowings::last_picture(factor, b.height, b.width, planes, edges, scratch_f32);
     if l.small {
         return declined(b.resized(l.height, l.width), 5, l.narrowed);
     }

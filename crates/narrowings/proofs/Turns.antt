@@ -166,7 +166,8 @@ module _ (f : ℕ) (i : FactorIn f) where
         }
 
     -- what the code hands back where it ends at the screen t
-    narrows-at : (t : Stage) (end : Bool) {th : Float} {b : Bounds} {g′ : List Float} → lastOf f h w start ≡ record { stage = t; tooSmall = end }
+    narrows-at : (t : Stage) (end : Bool) {th : Float} {b : Bounds} {g′ : List Float}
+        → lastOf f h w start ≡ record { stage = t; tooSmall = end }
         → leastPlaneSide ≤ t .height → leastPlaneSide ≤ t .width → t .height * t .width ≤ h * w
         → Looks (t .height) (t .width) (t .planes) th b g′
         → Narrows h w (lastOf f h w start)

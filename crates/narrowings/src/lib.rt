@@ -82,7 +82,8 @@ fn narrow_on(
     scratch: &mut [f32],
 ) -> Narrowed
     requires { ⌜ FactorIn factor × FitPlanes (leastLocated factor) height width (now planes) ⌝ }
-    requires { ⌜ Looks height width (now planes) (start .threshold) (start .bounds) (now scratch) × (height * width ≤ length (now scratch)) ⌝ }
+    requires { ⌜ Looks height width (now planes) (start .threshold) (start .bounds) (now scratch)
+        × (height * width ≤ length (now scratch)) ⌝ }
     ensures { λ r.
         let last = lastOf factor height width (now (planes .entry)) in
         ⌜ Narrows height width last r (now (planes .exit)) (now (scratch .exit)) ⌝ }

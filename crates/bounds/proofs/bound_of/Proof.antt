@@ -5,7 +5,7 @@ use mathlib.Core.Path.{sym, _∙_}
 use native.Mathlib.Omega.{arith}
 use denote.Ref.{now}
 use Rattle.bounds.specs.Scan.{bound}
-use Rattle.bounds.specs.Inner.{seen, marksBy, low, high}
+use Rattle.bounds.specs.Inner.{seen, steep, low, high}
 use Rattle.bounds.proofs.Scans.{Reached, reached-none, reached-more, reached-end, move-to}
 use Rattle.bounds.proofs.Views.{place-below}
 use borrow.Author.Needs.{needs}
@@ -13,7 +13,7 @@ use Rattle.bounds.proofs.bound_of.Statement.{statement}
 use Rattle.bounds.proofs.bound_of.Tie as tie
 
 abbrev Inv-loop : tie.InvT-loop
-Inv-loop g th v m₀ p₀ m p = (m < v .along) × (p < v .across) × Reached (seen v (marksBy th g)) (low v) (high v) m₀ p₀ m p
+Inv-loop g th v m₀ p₀ m p = (m < v .along) × (p < v .across) × Reached (steep v th g) (low v) (high v) m₀ p₀ m p
 
 abbrev μ-loop : tie.MeasureT-loop
 μ-loop g th v m₀ p₀ m p = m
@@ -41,7 +41,7 @@ returns c =
     let l = c .before .before .before .before in
     let a = l .before .before .before .before .before .args in
     let stops = sym (c .before .before .before .move-from .ensures) ∙ c .before .enum-told .given .1 in
-    rw (c .place-of2 .ensures, ← reached-end (seen (a .v) (marksBy (a .th) (now (a .g)))) _ _ (l .loop .inv .2) stops, l .before .before .place-of .ensures)
+    rw (c .place-of2 .ensures, ← reached-end (steep (a .v) (a .th) (now (a .g))) _ _ (l .loop .inv .2) stops, l .before .before .place-of .ensures)
 
 enum-known-next : tie.Need-enum-known-next Inv-loop μ-loop
 enum-known-next c = search needs
@@ -55,7 +55,7 @@ falls c =
     let l = c .before .before .before .before in
     let a = l .before .before .before .before .before .args in
     let goes = sym (c .before .before .before .move-from .ensures) ∙ c .before .next .given .1 in
-    move-to (seen (a .v) (marksBy (a .th) (now (a .g)))) (low (a .v)) (high (a .v)) (l .loop .m) (l .loop .p) (omega arith) (l .loop .inv .1) goes
+    move-to (steep (a .v) (a .th) (now (a .g))) (low (a .v)) (high (a .v)) (l .loop .m) (l .loop .p) (omega arith) (l .loop .inv .1) goes
 
 loop-less : tie.Need-loop-less Inv-loop μ-loop
 loop-less c = falls c .0

@@ -7,7 +7,7 @@ use native.Mathlib.Omega.{arith}
 use denote.Ref.{now}
 use borrow.Author.Tests.{eq-eqb, ne-eqb}
 use Rattle.bounds.specs.Scan.{seenAt}
-use Rattle.bounds.specs.Inner.{seen, marksBy}
+use Rattle.bounds.specs.Inner.{steep}
 use Rattle.bounds.proofs.Scans.{seen-more, seen-none}
 use borrow.Author.Needs.{needs}
 use Rattle.bounds.proofs.fifth.Statement.{statement}
@@ -15,7 +15,7 @@ use Rattle.bounds.proofs.fifth.Tie as tie
 
 abbrev Inv-loop : tie.InvT-loop
 Inv-loop g th v m hi more₀ p₀ more p =
-    (p ≤ hi) × (seenAt (λ q. seen v (marksBy th g) q m) 4 p₀ (hi - p₀) ≡ seenAt (λ q. seen v (marksBy th g) q m) more p (hi - p))
+    (p ≤ hi) × (seenAt (λ q. steep v th g q m) 4 p₀ (hi - p₀) ≡ seenAt (λ q. steep v th g q m) more p (hi - p))
 
 abbrev μ-loop : tie.MeasureT-loop
 μ-loop g th v m hi more₀ p₀ more p = hi - p
@@ -34,7 +34,7 @@ returns c =
     let l = c .before .before .before .before in
     let a = l .before .before .before .before .args in
     let more =
-    seen-more (λ q. seen (a .v) (marksBy (a .th) (now (a .g))) q (a .m)) (l .loop .more) (l .loop .p) _ (c .before .before .before .loop-test .taken) in
+    seen-more (λ q. steep (a .v) (a .th) (now (a .g)) q (a .m)) (l .loop .more) (l .loop .p) _ (c .before .before .before .loop-test .taken) in
     rw (l .loop .inv .1, more, sym (c .before .before .is-steep .ensures) ∙ c .before .if1 .taken, eq-eqb (l .loop .more) 0 (c .if2 .taken))
 
 sub-more : tie.Need-sub-more Inv-loop μ-loop
@@ -51,7 +51,7 @@ loop-again c =
     let l = c .before .before .before in
     let a = l .before .before .before .before .args in
     let more =
-    l .loop .inv .1 ∙ seen-more (λ q. seen (a .v) (marksBy (a .th) (now (a .g))) q (a .m)) (l .loop .more) (l .loop .p) _
+    l .loop .inv .1 ∙ seen-more (λ q. steep (a .v) (a .th) (now (a .g)) q (a .m)) (l .loop .more) (l .loop .p) _
     (c .before .before .loop-test .taken) in
     let e = c .before .is-steep .ensures in
     ⊎-elim
@@ -63,7 +63,7 @@ returns-2 : tie.Need-returns-2 Inv-loop μ-loop
 returns-2 c =
     let l = c .before in
     let a = l .before .before .before .before .args in
-    let none = seen-none (λ q. seen (a .v) (marksBy (a .th) (now (a .g))) q (a .m)) (l .loop .more) (l .loop .p) _ (c .loop-test .left) in
+    let none = seen-none (λ q. steep (a .v) (a .th) (now (a .g)) q (a .m)) (l .loop .more) (l .loop .p) _ (c .loop-test .left) in
     sym (l .loop .inv .1 ∙ none ∙ omega arith)
 
 pub fifth-spec : {M : Type 1} → statement M

@@ -5,7 +5,7 @@ use native.Mathlib.Omega.{arith}
 use denote.Ref.{now}
 use borrow.Author.Tests.{le-leb, lt-leb, lt-ltb, le-ltb}
 use Rattle.bounds.specs.Scan.{skips}
-use Rattle.bounds.specs.Inner.{seen, marksBy, low, high}
+use Rattle.bounds.specs.Inner.{steep, low, high}
 use Rattle.bounds.proofs.Scans.{skips-more, skips-none}
 use borrow.Author.Needs.{needs}
 use Rattle.bounds.proofs.skip_from.Statement.{statement}
@@ -13,7 +13,7 @@ use Rattle.bounds.proofs.skip_from.Tie as tie
 
 abbrev Inv-loop : tie.InvT-loop
 Inv-loop g th v m skip₀ skip =
-    (1 ≤ skip) × (skip ≤ 4) × (skips (seen v (marksBy th g)) (low v) (high v) m 1 3 ≡ skips (seen v (marksBy th g)) (low v) (high v) m skip (4 - skip))
+    (1 ≤ skip) × (skip ≤ 4) × (skips (steep v th g) (low v) (high v) m 1 3 ≡ skips (steep v th g) (low v) (high v) m skip (4 - skip))
 
 abbrev μ-loop : tie.MeasureT-loop
 μ-loop g th v m skip₀ skip = 4 - skip
@@ -25,7 +25,7 @@ returns : tie.Need-returns Inv-loop μ-loop
 returns c =
     let l = c .before .before in
     let a = l .before .before .args in
-    let more = skips-more (seen (a .v) (marksBy (a .th) (now (a .g)))) (low (a .v)) (high (a .v)) (a .m) (l .loop .skip) (omega arith) in
+    let more = skips-more (steep (a .v) (a .th) (now (a .g))) (low (a .v)) (high (a .v)) (a .m) (l .loop .skip) (omega arith) in
     rw (l .loop .inv .2, more, le-leb (a .m) (l .loop .skip) (c .if1 .taken))
 
 sub-next : tie.Need-sub-next Inv-loop μ-loop
@@ -41,7 +41,7 @@ returns-2 : tie.Need-returns-2 Inv-loop μ-loop
 returns-2 c =
     let l = c .before .before .before .before .before in
     let a = l .before .before .args in
-    let more = skips-more (seen (a .v) (marksBy (a .th) (now (a .g)))) (low (a .v)) (high (a .v)) (a .m) (l .loop .skip) (omega arith) in
+    let more = skips-more (steep (a .v) (a .th) (now (a .g))) (low (a .v)) (high (a .v)) (a .m) (l .loop .skip) (omega arith) in
     let at = c .before .before .fifth in
     let on = lt-leb (a .m) (l .loop .skip) (c .before .before .before .if1 .left) in
     rw (l .loop .inv .2, more, on, ← at .ensures, lt-ltb (at .result) (high (a .v)) (c .if2 .taken))
@@ -56,7 +56,7 @@ loop-again : tie.Need-loop-again Inv-loop μ-loop
 loop-again c =
     let l = c .before .before .before .before .before in
     let a = l .before .before .args in
-    let more = skips-more (seen (a .v) (marksBy (a .th) (now (a .g)))) (low (a .v)) (high (a .v)) (a .m) (l .loop .skip) (omega arith) in
+    let more = skips-more (steep (a .v) (a .th) (now (a .g))) (low (a .v)) (high (a .v)) (a .m) (l .loop .skip) (omega arith) in
     let at = c .before .before .fifth in
     let on = lt-leb (a .m) (l .loop .skip) (c .before .before .before .if1 .left) in
     (omega arith, omega arith, rw (on, ← at .ensures, le-ltb (at .result) (high (a .v)) (c .if2 .left)) at (l .loop .inv .2 ∙ more))
@@ -65,7 +65,7 @@ returns-3 : tie.Need-returns-3 Inv-loop μ-loop
 returns-3 c =
     let l = c .before in
     let a = l .before .before .args in
-    sym (l .loop .inv .2 ∙ skips-none (seen (a .v) (marksBy (a .th) (now (a .g)))) (low (a .v)) (high (a .v)) (a .m) (l .loop .skip) (omega arith))
+    sym (l .loop .inv .2 ∙ skips-none (steep (a .v) (a .th) (now (a .g))) (low (a .v)) (high (a .v)) (a .m) (l .loop .skip) (omega arith))
 
 pub skip-from-spec : {M : Type 1} → statement M
 skip-from-spec =
