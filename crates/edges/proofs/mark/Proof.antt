@@ -1,11 +1,10 @@
 -- `edges::mark` meets its contract. The invariant: the marks of the first k gradients stand at the front. What is left of
 -- the gradients falls.
-use Prim.Native.Nat.{ℕ, _-_, _*_, _≤_}
-use mathlib.Core.Path.{_≡_, sym}
-use mathlib.Core.List.{List}
+use Prim.Native.Nat.{_-_, _≤_}
+use mathlib.Core.Path.{_≡_}
 use native.Mathlib.Omega.{arith}
 use denote.Ref.{now}
-use lib.Ieee.{Float, nan, le}
+use lib.Ieee.{nan, le}
 use lib.ListN.{length, getD}
 use Rattle.lists.specs.Front.{AtFront}
 use Rattle.lists.specs.Picture.{bit}

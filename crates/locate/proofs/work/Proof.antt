@@ -1,9 +1,6 @@
 -- `locate::work` meets its contract: the last picture, and the two ways on from it.
 use Prim.Native.Nat.{ℕ}
-use mathlib.Core.Path.{_≡_}
-use native.Mathlib.Omega.{arith}
 use denote.Ref.{now}
-use lib.ListN.{length}
 use Rattle.lists.specs.Front.{AtFront}
 use Rattle.board.specs.declared.Board.{Board}
 use Rattle.board.specs.Board.{leastLocated}
