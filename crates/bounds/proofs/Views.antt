@@ -17,6 +17,11 @@ pub place-below : (way : Way) {along m : ℕ} → m < along → place way along 
 place-below Near h = h
 place-below Far h = omega arith
 
+-- a point of the view is a byte or a gradient of the slice
+pub point-in : {v : View} {n p m : ℕ} → Lies v n → p < v .across → m < v .along
+    → p * v .down + place (v .way) (v .along) m * v .right < n
+point-in {v} {n} {p} {m} l a b = l .inside p (place (v .way) (v .along) m) a (place-below (v .way) b)
+
 -- a rule F of the view, for columns and for rows
 module _
     (F : Way → (ℕ → ℕ → Bool) → ℕ → ℕ → ℕ) (way : Way) (row column stride : ℕ) (e : List ℕ) {r : ℕ} {v : View}

@@ -6,9 +6,8 @@ use denote.Ref.{now}
 use lib.ListN.{length}
 use Rattle.lists.specs.Picture.{points}
 use Rattle.edges.proofs.Laws.{mark-is}
-use Rattle.bounds.specs.Scan.{place}
 use Rattle.bounds.specs.Inner.{seen}
-use Rattle.bounds.proofs.Views.{place-below}
+use Rattle.bounds.proofs.Views.{point-in}
 use borrow.Author.Needs.{needs}
 use Rattle.bounds.proofs.is_steep.Statement.{statement}
 use Rattle.bounds.proofs.is_steep.Tie as tie
@@ -19,11 +18,7 @@ place-of-requires c κs = search needs
 -- the point is a gradient of the slice
 here : (c : tie.After-place-of) → let a = c .before .before .args in
     a .p * a .v .down + c .place-of .result * a .v .right < length (now (a .g))
-here c =
-    let s = c .before .before in
-    let v = s .args .v in
-    rw (c .place-of .ensures)
-    (s .pre .0 .inside (s .args .p) (place (v .way) (v .along) (s .args .m)) (s .pre .1) (place-below (v .way) (s .pre .2)))
+here c = let s = c .before .before in rw (c .place-of .ensures) (point-in (s .pre .0) (s .pre .1) (s .pre .2))
 
 mul-at : tie.Need-mul-at
 mul-at c = omega (arith, here (c .before))
