@@ -104,7 +104,7 @@ const fn zoomed(factor: usize, sides: [usize; 2], narrowings: u32, seed: u64) ->
     Built { height: sides[0], width: sides[1], factor, end, look }
 }
 
-/// Read after one narrowing; what the unchanged Rust reads is the board at the top left.
+/// Read after one narrowing; the unchanged Rust comes to another record, by the first edge picture.
 const fn textured(sides: [usize; 2], seed: u64) -> Built {
     let look = Look::Textured { seed };
     Built { look, ..zoomed(OWN_FACTOR, sides, 1, seed) }
