@@ -53,7 +53,8 @@ const ADDED: &[(&str, &[&str])] = &[
 ];
 
 /// Lines of the original, each there once, and what the probed copy has for them: each narrowing has the
-/// factor of the run (02, R-1), and the outer `x_bw3` is mutable, and set where the inner one was (02, R-3).
+/// factor of the run (02, R-1), the outer `x_bw3` is mutable, and set where the inner one was (02, R-3), and
+/// the middle loops of both score lists take one more turn (02, R-4).
 const CHANGED: &[(&str, &str)] = &[
     ("            self.narrow(3);", "self.narrow(crate::original::probe::factor());"),
     (
@@ -64,6 +65,8 @@ const CHANGED: &[(&str, &str)] = &[
         "            let x_bw3 = self.binarize_gradient(&x_bw2);",
         "            x_bw3 = self.binarize_gradient(&x_bw2);",
     ),
+    ("        for c in c_1..c_2 - 4 {", "        for c in c_1..c_2 - 3 {"),
+    ("        for r in r_1..r_2 - 4 {", "        for r in r_1..r_2 - 3 {"),
 ];
 
 /// A copy of the original in OUT_DIR with lines added that store locals, and some changed.

@@ -1,6 +1,7 @@
 //! The Rust original, unchanged. The modules below it reach its private fields and functions;
-//! `probed` has a copy of it that narrows by the factor of the run and goes on with the edge picture of
-//! the last narrowing, with lines added, which store the locals that `probe` holds.
+//! `probed` has a copy of it that narrows by the factor of the run, goes on with the edge picture of the
+//! last narrowing and scores the last place but one, with lines added, which store the locals that `probe`
+//! holds.
 
 include!(env!("FOLGUTAN_OBR_FILE"));
 

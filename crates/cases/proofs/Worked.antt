@@ -1,4 +1,4 @@
--- The fourteen worked cases of 01 follow from the rules: both sides of each compute to the same.
+-- The worked cases of 01 and 02 follow from the rules: both sides of each compute to the same.
 use mathlib.Core.Path.{refl}
 use lib.Ieee.{ofBits, le, add, mul, div, ofInt, toUnsigned}
 use Rattle.rank.specs.Rank.{entry}
@@ -8,9 +8,14 @@ use Rattle.lines.specs.Lines.{lineThreshold, smooth, isLine, linesOf, estimate,
 use Rattle.votes.specs.Votes.{winner}
 use Rattle.reading.specs.Reading.{quartersOf, readingOf}
 use Rattle.sample.specs.Sample.{sampledAt}
-use Rattle.cases.specs.Cases.{All, cases}
+use Rattle.strips.specs.Strip.{scores}
+use Rattle.cases.specs.Cases.{All, cases, requested}
 
 pub worked : All cases
 unfolding ofBits le add mul div ofInt toUnsigned entry bound score lineThreshold smooth isLine linesOf estimate
     narrowGap winner quartersOf readingOf sampledAt
 worked = (refl, (refl, ((λ E. refl), (refl, (refl, (refl, (refl, (refl, (refl, ((refl, refl), ((refl, refl), (refl, (refl, (refl, tt))))))))))))))
+
+pub worked-requests : All requested
+unfolding score scores
+worked-requests = (refl, ((refl, refl), ((refl, refl), tt)))

@@ -1,4 +1,5 @@
--- The fourteen worked cases of 01, by the definitions that the contracts cite. They hold together: proofs/Worked.
+-- The fourteen worked cases of 01, and those of a request of 02, by the definitions that the contracts cite. They hold together:
+-- proofs/Worked.
 use Prim.Native.Nat.{ℕ, _*_}
 use mathlib.Core.Path.{_≡_}
 use mathlib.Core.Bool.{Bool, true, false, cond, _||_}
@@ -7,9 +8,11 @@ use lib.Dec.{eqb}
 use lib.Ieee.{Float, binary32, ofBits}
 use lib.ListN.{length, replicate}
 use Rattle.lists.specs.Tab.{tabFrom, tab}
+use Rattle.lists.specs.Picture.{flip}
 use Rattle.board.specs.declared.Bounds.{Bounds}
 use Rattle.bounds.specs.Bounds.{boundsOf}
-use Rattle.lanes.specs.Score.{at, score}
+use Rattle.lanes.specs.Score.{Place, at, score}
+use Rattle.strips.specs.Strip.{places, columnScores, rowScores}
 use Rattle.lines.specs.Lines.{linesOf}
 use Rattle.reading.specs.declared.Reading.{Reading}
 use Rattle.reading.specs.declared.Reading.the-variants.{Read, Refused}
@@ -29,6 +32,10 @@ pub data Case : Type 0 where
   scoredAll : Picture → ℕ → ℕ → Case
   -- the same for one target lane
   scored : Picture → ℕ → ℕ → ℕ → Case
+  -- the scored places of columns c_1 to c_2
+  placed : ℕ → ℕ → List Place → Case
+  -- the column scores over some bounds, which are the row scores of the flipped picture too
+  listed : Picture → Bounds → List ℕ → Case
   -- what a list reads as
   read : List ℕ → Reading → Case
   -- the lines of a list, and what it reads as
@@ -40,12 +47,21 @@ pub data Case : Type 0 where
 abbrev pub laneScores : Picture → ℕ → List ℕ
 laneScores E steps = tab 5 (λ k. score E 0 steps (at 0 k))
 
+abbrev pub bounds : ℕ → ℕ → ℕ → ℕ → Bounds
+bounds r₁ r₂ c₁ c₂ = record { «r_1» = r₁; «r_2» = r₂; «c_1» = c₁; «c_2» = c₂ }
+
+-- rows and columns exchanged
+abbrev pub exchanged : Bounds → Bounds
+exchanged b = bounds (b .«c_1») (b .«c_2») (b .«r_1») (b .«r_2»)
+
 -- what a case says; a list has the scratch that it asks for
 abbrev pub Holds : Case → Type 0
 Holds (bounded E b) = boundsOf E 10 10 ≡ b
 Holds (still s) = (E : Picture) → laneScores E 0 ≡ replicate 5 s
 Holds (scoredAll E steps s) = laneScores E steps ≡ replicate 5 s
 Holds (scored E steps k s) = score E 0 steps (at 0 k) ≡ s
+Holds (placed c₁ c₂ l) = places c₁ c₂ ≡ l
+Holds (listed E b l) = (columnScores E b ≡ l) × (rowScores (flip E) (exchanged b) ≡ l)
 Holds (read l r) = readingOf l (4 * length l) ≡ r
 Holds (lined l lines r) = (linesOf l ≡ lines) × (readingOf l (4 * length l) ≡ r)
 Holds (sampled corner offset pitch x size rows) = tab size (sampledAt corner offset pitch x size) ≡ rows
@@ -63,9 +79,6 @@ allSet i j = true
 -- only one lane is set
 abbrev pub only : ℕ → Picture
 only lane i j = eqb j lane
-
-abbrev pub bounds : ℕ → ℕ → ℕ → ℕ → Bounds
-bounds r₁ r₂ c₁ c₂ = record { «r_1» = r₁; «r_2» = r₂; «c_1» = c₁; «c_2» = c₂ }
 
 abbrev pub member : ℕ → List ℕ → Bool
 member i [] = false
@@ -107,4 +120,15 @@ cases =
     ∷ read (tens 300 (3 ∷ 209 ∷ [])) (Refused 7)
     -- sampling with corner 0, offset 3, pitch 10.0, x = 0, size 2: rows 5 and 10
     ∷ sampled 0 3 ten 0 2 (5 ∷ 10 ∷ [])
+    ∷ []
+
+-- 02, R-4: a score for the last place but one
+abbrev pub requested : List Case
+requested =
+    -- places of c_1 = 3, c_2 = 9: (3, 0), (3, 1), (3, 2), (4, 2), (5, 2), (5, 3), (5, 4)
+    placed 3 9 (at 3 0 ∷ at 3 1 ∷ at 3 2 ∷ at 4 2 ∷ at 5 2 ∷ at 5 3 ∷ at 5 4 ∷ [])
+    -- rows 0 to 3, columns 0 to 6, only column 4 set: 0 0 0 1 3 1 0
+    ∷ listed (only 4) (bounds 0 3 0 6) (0 ∷ 0 ∷ 0 ∷ 1 ∷ 3 ∷ 1 ∷ 0 ∷ [])
+    -- rows 0 to 3, columns 0 to 4, only column 2 set: 0 1 3 1 0
+    ∷ listed (only 2) (bounds 0 3 0 4) (0 ∷ 1 ∷ 3 ∷ 1 ∷ 0 ∷ [])
     ∷ []

@@ -1,5 +1,6 @@
 pub mod Checks
 pub mod Leading
+pub mod Lists
 pub mod Promises
 pub mod Scored
 pub mod Unbeaten

@@ -29,13 +29,13 @@ use Rattle.locate.proofs.Scored.{Scored, scored, last-is}
 use Rattle.locate.proofs.Unbeaten.{scores-long, unbeaten}
 
 module _ (g : Reference) (s : Scored g) where
-  columns-fit : InLimits (g .columns)
+  pub columns-fit : InLimits (g .columns)
   columns-fit =
       let e = s .wide in
       rw (s .columns-are)
       (scores-fit (g .picture) _ _ _ _ (e .columns) (omega (arith, e .column-end, s .columns-end)) (omega (arith, e .row-end, s .rows-end)))
 
-  rows-fit : InLimits (g .rows)
+  pub rows-fit : InLimits (g .rows)
   rows-fit =
       let e = s .wide in
       rw (s .rows-are)

@@ -49,6 +49,11 @@ module _ (f h w : ℕ) (planes : List Float) where
         let a = sound-around (omega arith) sound in
         wide _ (omega (arith, s .low-h)) (omega (arith, s .low-w)) (within a) (n .0) (n .1)
 
+    -- which is no larger than the screen
+    pub sides-in : (referenceOf f h w planes .row ≤ h) × (referenceOf f h w planes .column ≤ w)
+    unfolding referenceOf
+    sides-in = (omega (arith, sound .high-h), omega (arith, sound .high-w))
+
     pub scored : Scored (referenceOf f h w planes)
     unfolding referenceOf
     scored =

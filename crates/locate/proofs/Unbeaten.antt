@@ -5,8 +5,9 @@ use mathlib.Core.List.{List}
 use lib.ListN.{length, getD}
 use Rattle.lanes.specs.Score.{score}
 use Rattle.lanes.proofs.Walks.{no-better, attained}
-use Rattle.strips.specs.Strip.{places, scores}
-use Rattle.strips.proofs.Scores.{count-is, place-count, length-scores, score-at, place-lane}
+use Rattle.strips.specs.Strip.{places, scores, EachColumn}
+use Rattle.strips.proofs.Scores.{count-is, length-scores, score-at}
+use Rattle.strips.proofs.Columns.{each-column}
 use Rattle.lines.specs.Inner.{InLimits}
 use Rattle.reading.specs.declared.Quarters.{Quarters}
 use Rattle.reading.specs.declared.Quarters.the-variants.{Read, Refused}
@@ -29,6 +30,9 @@ module _ (a : Axis) (is : a .scores ≡ scores (a .picture) (a .from) (a .to) (a
   pub scores-long : length (a .scores) ≡ length (places (a .low) (a .high))
   scores-long = ap length is ∙ length-scores (a .picture) _ _ _ _ ∙ count-is (a .low) (a .high)
 
+  placed : EachColumn (a .low) (a .high)
+  placed = each-column (a .low) (a .high) wide
+
   pub unbeaten : (entry : ℕ → ℕ) (q offset count voted : ℕ) → InLimits (a .scores)
       → ((i : ℕ) → i < length (places (a .low) (a .high)) → entry i ≡ getD (a .scores) i 0)
       → quartersOf (a .scores) ≡ Read q offset count voted
@@ -37,16 +41,19 @@ module _ (a : Axis) (is : a .scores ≡ scores (a .picture) (a .from) (a .to) (a
       record {
         long = long;
         span = wide;
-        counted = scores-long ∙ sym (count-is (a .low) (a .high)) ∙ place-count (a .low) (a .high) wide;
+        counted = scores-long ∙ placed .counted;
         placed = sym scores-long;
         handed = λ i l. same i (rw scores-long at l);
         lined = rw e at (lined (a .scores) fit);
         bounded = λ i l walk w. rw (here i l) (no-better (a .picture) (a .from) (a .to) (placeAt a i) walk w);
-        attained = λ i l. rw (here i l) (attained (a .picture) (a .from) (a .to) (placeAt a i) (place-lane (a .low) (a .high) i));
+        attained = λ i l. rw (here i l) (attained (a .picture) (a .from) (a .to) (placeAt a i) (lane i l));
         wins = rw e at (won (a .scores) fit);
         pitch-is = refl;
       }
     where
+      lane : (i : ℕ) → i < length (places (a .low) (a .high)) → placeAt a i .lane ≤ 4
+      lane i l = placed .in-order i (rw (placed .counted) at l) .on-strip
+
       -- the entry of a place is its score
       here : (i : ℕ) → i < length (places (a .low) (a .high)) → entry i ≡ score (a .picture) (a .from) (a .to) (placeAt a i)
       here i l = same i l ∙ rw is (score-at (a .picture) (a .from) (a .to) (a .low) (a .high) i (rw (count-is (a .low) (a .high)) l))

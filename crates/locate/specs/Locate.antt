@@ -1,5 +1,5 @@
--- 01, "Locating" and its refusals, with 02, R-1 and R-3: what a call hands back and leaves.
-use Prim.Native.Nat.{ℕ, _+_, _*_}
+-- 01, "Locating" and its refusals, with 02, R-1, R-3 and R-4: what a call hands back and leaves.
+use Prim.Native.Nat.{ℕ, _+_, _*_, _≤_}
 use mathlib.Core.Path.{_≡_}
 use mathlib.Core.Bool.{Bool, cond, _||_}
 use mathlib.Core.List.{List, [], _++_}
@@ -14,7 +14,7 @@ use Rattle.board.specs.Board.{leastLocated, factorOutside, resized, withReading
 use Rattle.board.specs.Planes.{planesAnswer}
 use Rattle.reading.specs.declared.Quarters.{Quarters}
 use Rattle.reading.specs.declared.Quarters.the-variants.{Read, Refused}
-use Rattle.reading.specs.Reading.{pitchOf, quartersOf}
+use Rattle.reading.specs.Reading.{pitchOf, quartersOf, lineAnswer}
 use Rattle.locate.specs.declared.Located.{Located}
 use Rattle.locate.specs.Reference.{Reference, referenceOf}
 
@@ -96,6 +96,13 @@ scoresOf g = cond (g .last .tooSmall) [] (g .columns ++ g .rows)
 -- the reference of a call
 abbrev pub referenceFor : Board → ℕ → Lent → Reference
 referenceFor b f s = referenceOf f (b .height) (b .width) (s .planes)
+
+-- 02, R-4: both score lists fit the slices that a call asks for. They stand in h + w entries, and with 4·(h + w) entries of scratch the
+-- reading of either is not refused for its length, its scratch or its entries.
+pub record ListsFit (h w : ℕ) (g : Reference) : Type 0 where
+  pub scores-in : length (g .columns) + length (g .rows) ≤ h + w
+  pub columns-taken : lineAnswer (g .columns) (4 * (h + w)) ≡ 0
+  pub rows-taken : lineAnswer (g .rows) (4 * (h + w)) ≡ 0
 
 -- how much of a scratch slice is free afterwards: what 01 asks for, and nothing where the checks refuse
 abbrev pub freed : Board → ℕ → Lent → ℕ → ℕ

@@ -1,3 +1,4 @@
 pub mod Scores
+pub mod Columns
 pub mod Turning
 pub mod Bands

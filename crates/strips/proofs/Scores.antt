@@ -1,5 +1,5 @@
--- The scored places and the score list: how many they are, their entries, and how the parts make the list. Only `middles` and `place-count`
--- know the number. Assumes nothing.
+-- The scored places and the score list: how many they are, their entries, and how the parts make the list. Only `middles` and
+-- `place-count` know the number. Assumes nothing.
 use Prim.Native.Nat.{ℕ, zero, suc, _+_, _-_, _≤_, _<_}
 use mathlib.Core.Path.{_≡_, refl, ap, _∙_}
 use mathlib.Core.Bool.{Bool}
@@ -28,8 +28,8 @@ framed-length : (c₁ c₂ n : ℕ) → length (framed c₁ c₂ n) ≡ n + 4
 framed-length c₁ c₂ n = simp (length-append, length-tabFrom) (omega arith)
 
 -- how many strips with target lane 2 there are
-abbrev middles : ℕ → ℕ → ℕ
-middles c₁ c₂ = c₂ - c₁ - 4
+abbrev pub middles : ℕ → ℕ → ℕ
+middles c₁ c₂ = c₂ - c₁ - 3
 
 framed-again : (c₁ c₂ n : ℕ) → (framed c₁ c₂ n ≡ framed c₁ c₂ (length (framed c₁ c₂ n) - 4)) × (4 ≤ length (framed c₁ c₂ n))
 framed-again c₁ c₂ n =
@@ -71,35 +71,6 @@ pub score-at : (E : ℕ → ℕ → Bool) (from to c₁ c₂ i : ℕ) → i < pl
     getD (scores E from to c₁ c₂) i 0 ≡ score E from to (getD (places c₁ c₂) i (at 0 0))
 unfolding scores placeCount
 score-at E from to c₁ c₂ i l = getD-map (score E from to) (places c₁ c₂) i (at 0 0) 0 l
-
--- every lane of a list of places is one of five
-abbrev OnStrip : List Place → Type 0
-OnStrip l = (i : ℕ) → getD l i (at 0 0) .lane ≤ 4
-
-on-pair : (c k : ℕ) → suc k ≤ 4 → OnStrip (at c k ∷ at c (suc k) ∷ [])
-on-pair c k h zero = omega arith
-on-pair c k h (suc zero) = h
-on-pair c k h (suc (suc i)) = omega arith
-
-on-append : (l m : List Place) → OnStrip l → OnStrip m → OnStrip (l ++ m)
-on-append [] m o q i = q i
-on-append (x ∷ l) m o q zero = o zero
-on-append (x ∷ l) m o q (suc i) = on-append l m (λ j. o (suc j)) q i
-
-on-tab : (from n : ℕ) (c : ℕ → ℕ) → OnStrip (tabFrom from n (λ i. at (c i) 2))
-on-tab from zero c i = omega arith
-on-tab from (suc n) c zero = omega arith
-on-tab from (suc n) c (suc i) = on-tab (suc from) n c i
-
-on-framed : (c₁ c₂ n : ℕ) → OnStrip (framed c₁ c₂ n)
-on-framed c₁ c₂ n =
-    let middle : List Place = tab n (λ i. at (c₁ + i) 2) in
-    let last : List Place = at (c₂ - 4) 3 ∷ at (c₂ - 4) 4 ∷ [] in
-    let more = on-append middle last (on-tab 0 n (λ i. c₁ + i)) (on-pair (c₂ - 4) 3 (omega arith)) in
-    on-append (at c₁ 0 ∷ at c₁ 1 ∷ []) (middle ++ last) (on-pair c₁ 0 (omega arith)) more
-
-pub place-lane : (c₁ c₂ i : ℕ) → getD (places c₁ c₂) i (at 0 0) .lane ≤ 4
-place-lane c₁ c₂ = on-framed c₁ c₂ (middles c₁ c₂)
 
 -- no score is above the number of steps
 pub scores-most : (E : ℕ → ℕ → Bool) (from to c₁ c₂ i : ℕ) → getD (scores E from to c₁ c₂) i 0 ≤ to - from

@@ -35,7 +35,7 @@ pub fn place_count(c_1: usize, c_2: usize) -> usize
     requires { ⌜ (c_1 + 4 ≤ c_2) × (c_2 ≤ 4096) ⌝ }
     ensures { λ r. ⌜ r ≡ placeCount c_1 c_2 ⌝ }
 {
-    c_2 - c_1
+    c_2 - c_1 + 1
 }
 
 // The first strip's lanes 0 and 1, the last strip's lanes 3 and 4.

@@ -68,10 +68,12 @@ impl Asked {
         Err(format!("no screen was found for {self:?}"))
     }
 
-    /// A board that is read has unlike pitches, so that rows taken for columns would show.
+    /// A board that is read has unlike pitches, so that rows taken for columns would show. This is asked of
+    /// the scores without those that 02, R-4, adds, so that the stored screens stay what they were.
     fn fits(&self, run: &Traced) -> bool {
-        let record = &run.record;
-        let board = record.r.min(record.c) >= CELLS && record.pixelr != record.pixelc;
+        let board = run.without.is_some_and(|(whole, record)| {
+            whole && record.r.min(record.c) >= CELLS && record.pixelr != record.pixelc
+        });
         (run.answer, run.seen.narrowed) == (self.answer, self.narrowed)
             && (run.answer != 0 || board)
     }

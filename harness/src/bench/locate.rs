@@ -46,20 +46,16 @@ impl Room {
     }
 }
 
-/// Both came to the same record, and the screen was as its kind says. On a narrowed screen the Rust that is
-/// measured goes on with the first edge picture; there the record is compared with that of the copy that
-/// goes on with the last one, as the port does.
-fn checked(kind: Kind, sides: [usize; 2], board: &ImageBoard, located: &Located) {
-    let mut record = load::record(board);
+/// Both came to the same sides, the copy that is changed as 02 says to the port's record, and the screen was
+/// as its kind says. The Rust that is measured is the unchanged one: it goes on with the first edge picture,
+/// and scores a place less of each axis.
+fn checked(kind: Kind, [height, width]: [usize; 2], board: &ImageBoard, located: &Located) {
+    let record = load::record(board);
     assert_eq!((record.height, record.width), (located.board.height, located.board.width));
-    if located.narrowed > 0 {
-        let numbers = load::numbers(&kind.pixels(sides[0], sides[1]));
-        let ran = probed::locate(numbers, sides[0], sides[1], OWN_FACTOR);
-        assert_eq!(answer_of(&ran), Some(located.answer));
-        record = ran.record;
-    }
+    let ran = probed::locate(load::numbers(&kind.pixels(height, width)), height, width, OWN_FACTOR);
+    assert_eq!(answer_of(&ran), Some(located.answer));
     if located.answer == 0 {
-        assert_eq!(record, located.board.record());
+        assert_eq!(ran.record, located.board.record());
     }
     match kind {
         Kind::Clean | Kind::Noisy => assert_eq!((located.answer, located.narrowed), (0, 0)),

@@ -153,7 +153,7 @@ fn lists(
         return found;
     }
     let mut out = Lent::new(b.r_2 - b.r_1 + 9);
-    let mut turned: Lent<u8> = Lent::new((b.c_2 - b.c_1 + 1) * (b.r_2 - b.r_1));
+    let mut turned: Lent<u8> = Lent::new((b.c_2 - b.c_1 + 1) * (b.r_2 - b.r_1 + 1));
     inner::row_scores(edges, stride, b, turned.slice(), out.slice());
     out.differs("row scores", numbers(rows)).or_else(|| turned.around("scratch"))
 }
@@ -170,6 +170,14 @@ pub fn scores(run: &Run) -> Outcome {
             Err(format!("case {count}, row {row}, row length {stride}, {b:?}: {found}{picture}"))
         })
     };
+    // one column set, the last but two of the span, or one row: the place of the added score (02, R-4)
+    for (rows, columns) in [(5, 7), (5, 5), (7, 5), (9, 40)] {
+        let set_column = |at: usize| (at % columns == columns - 3) as u8;
+        let set_row = |at: usize| (at / columns == rows - 3) as u8;
+        let all = [0, rows - 1, 0, columns - 1];
+        one(&(0..rows * columns).map(set_column).collect::<Vec<_>>(), rows, columns, all)?;
+        one(&(0..rows * columns).map(set_row).collect::<Vec<_>>(), rows, columns, all)?;
+    }
     for _ in 0..run.choose(3_000, 120_000) {
         let (row, column) = (side(rng, 5, 140), side(rng, 5, 140));
         let edges = marks(rng, row, column);

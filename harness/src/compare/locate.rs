@@ -1,9 +1,10 @@
 //! Locating beside `get_pos_pixel`, with each factor: every field, the planes, the edge picture of the
-//! last picture and both score lists. All comes from the probed copy, which narrows by the factor and goes
-//! on with that picture; with the factor of the unchanged file this is run too, and must do the same on
-//! every screen that is not narrowed or gets too small, and on the others what the first edge picture gives.
+//! last picture and both score lists. All comes from the probed copy, which narrows by the factor, goes on
+//! with that picture and scores the last place but one; with the factor of the unchanged file this is run
+//! too, and must do the same on every screen that gets too small, and on the others what the first edge
+//! picture gives without the two added scores.
 
-use super::built::{Built, End, DEPARTURES, LARGE, READ_NARROWED};
+use super::built::{Built, End, DEPARTURES, FRAMED, LARGE, READ_NARROWED};
 use super::lent::Lent;
 use super::met::{as_built, Met, Row};
 use super::values::UNFIT;
@@ -56,6 +57,13 @@ pub fn compare(run: &Run) -> Outcome {
     cases.met.built = true;
     for built in DEPARTURES.iter().chain(READ_NARROWED).chain(LARGE) {
         cases.built(built)?;
+    }
+    for (built, wanted, unchanged) in FRAMED {
+        cases.built(built)?;
+        let run = traced(&built.pixels(), built.height, built.width, built.factor)?;
+        let counts = |record: Record| [record.r, record.c];
+        let have = run.without.map(|(_, record)| (counts(run.record), counts(record)));
+        as_built(&format!("{built:?}"), Some((*wanted, *unchanged)), have)?;
     }
     cases.met.built = false;
     for factor in FACTORS {
@@ -216,6 +224,10 @@ const ANSWER: &str = "any screen";
 const READ: &str = "a screen that is read, answer 0";
 const NARROWED: &str = "a screen that is narrowed";
 const LAST_EDGES: &str = "a screen that is narrowed and does not get too small";
+const LAST_BUT_ONE: &str = "a screen that does not get too small";
+/// Parts of it: what reads otherwise.
+const COLUMNS_MOVE: &str = "columns";
+const ROWS_MOVE: &str = "rows";
 const EDGES: &str = "answers 0 and 5 to 9";
 const SCORES: &str = "answers 0 and 6 to 9";
 const FACTOR_0: &str = "factor 0";
@@ -236,6 +248,7 @@ const BY_5_PANICS: &str = "by 5, panics";
 const ROWS: &[Row] = &[
     (TOO_SMALL, &[]),
     (LAST_EDGES, &[]),
+    (LAST_BUT_ONE, &[COLUMNS_MOVE, ROWS_MOVE]),
     (COLUMNS_NO_GAP, &[]),
     (COLUMNS_FAR, &[ROWS_READ, ROWS_FAR]),
     (COLUMNS_FAR_ROWS_NO_GAP, &[]),
@@ -270,7 +283,7 @@ struct Cases {
     /// From factor 2 on.
     by_factor: [ByFactor; 4],
     met: Met,
-    /// Built cases on which the unchanged file came to another record.
+    /// Built cases on which the unchanged file came to another record by the first edge picture.
     moved: u64,
     /// Of the last case, if the Rust was run on it.
     end: Option<End>,
@@ -287,8 +300,10 @@ struct Wanted {
     rows_read: bool,
     /// Whether the widening moved a bound, and not out to the rim.
     widened: bool,
-    /// Whether the unchanged file was run, and came to another record.
+    /// Whether the unchanged file was run, and came to another record by the first edge picture.
     moved: bool,
+    /// Whether the columns, and the rows, read otherwise for the added scores.
+    by_added: [bool; 2],
 }
 
 impl Cases {
@@ -324,7 +339,7 @@ impl Cases {
     /// number of rows or columns was never left over.
     fn note(&self) -> Result<String, String> {
         if self.moved == 0 {
-            return Err("the unchanged file came to the port's record on every built case".into());
+            return Err("no built case reads otherwise by the first edge picture".into());
         }
         let mut answers = vec![];
         let mut reads = vec![];
@@ -355,7 +370,7 @@ impl Cases {
 
     /// Counts a screen that was looked at.
     fn ended(&mut self, call: &Call, want: &Wanted) {
-        let Wanted { returns, rows_read, widened, moved, .. } = *want;
+        let Wanted { returns, rows_read, widened, moved, by_added, .. } = *want;
         let Located { answer, narrowed, .. } = want.located;
         self.end = Some(End { answer: Some(answer), returns, narrowed });
         self.answers[answer as usize] += 1;
@@ -377,6 +392,11 @@ impl Cases {
         if narrowed > 0 && answer != 5 && call.factor == OWN_FACTOR {
             self.met.count(LAST_EDGES);
             self.moved += (moved && self.met.built) as u64;
+        }
+        for (part, otherwise) in [COLUMNS_MOVE, ROWS_MOVE].into_iter().zip(by_added) {
+            if otherwise && call.factor == OWN_FACTOR {
+                self.met.count_part(LAST_BUT_ONE, part);
+            }
         }
         match (answer, returns) {
             (5, _) => self.met.count(TOO_SMALL),
@@ -679,10 +699,11 @@ fn wanted(pixels: &[u8], call: &Call) -> Result<Wanted, String> {
         [located.quarterr, located.quarterc] = run.quarters();
         [located.votesr, located.votesc] = run.votes();
     }
-    let (widened, moved) = (into_margin(&run), run.moved);
+    let (widened, moved, by_added) = (into_margin(&run), run.moved, run.by_added());
     let scores = run.seen.scores.map_or(vec![], |(columns, rows)| [columns, rows].concat());
     let (edges, returns, rows_read) = (run.seen.edges, run.whole, rust.pixelr != 0);
-    Ok(Wanted { located, planes: run.planes, edges, scores, returns, rows_read, widened, moved })
+    let planes = run.planes;
+    Ok(Wanted { located, planes, edges, scores, returns, rows_read, widened, moved, by_added })
 }
 
 /// Whether the widening moved a bound to a place that is nearly empty. Where there is none it goes to the

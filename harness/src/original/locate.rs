@@ -17,7 +17,10 @@ pub struct Traced {
     pub record: Record,
     pub planes: Vec<f32>,
     pub seen: Seen,
-    /// Whether the unchanged file was run, and came to another record.
+    /// What the scores without the two that 02, R-4, adds read as: whether both lists do, and the record
+    /// then. None where nothing was scored.
+    pub without: Option<(bool, Record)>,
+    /// Whether the unchanged file was run, and came to another record by the first edge picture.
     pub moved: bool,
 }
 
@@ -26,9 +29,10 @@ pub struct Traced {
 pub fn traced(pixels: &[u8], height: usize, width: usize, factor: usize) -> Result<Traced, String> {
     let ran = probed::locate(numbers(pixels), height, width, factor);
     let answer = answer_of(&ran).ok_or("the Rust panics before the scores")?;
-    let moved = factor == OWN_FACTOR && beside_unchanged(pixels, height, width, &ran)?;
+    let without = ran.seen.scores.is_some().then(|| without_added(&ran.record, &ran.seen));
+    let moved = factor == OWN_FACTOR && beside_unchanged(pixels, height, width, &ran, without)?;
     let Ran { seen, whole, record, planes } = ran;
-    Ok(Traced { answer, whole, record, planes, seen, moved })
+    Ok(Traced { answer, whole, record, planes, seen, without, moved })
 }
 
 /// 01's number for how a run ended: panics are 6 and 8, pitches 0.0 are 7 and 9, a quiet return is 5. A
@@ -44,31 +48,43 @@ pub fn answer_of(ran: &Ran) -> Option<u32> {
     }
 }
 
-/// The unchanged file leaves what the copy left. Where the screen was narrowed and did not get too small,
-/// this is so of the sides and the planes; its record is what the first edge picture gives with the last
-/// bounds. Hands back whether it is another one.
-fn beside_unchanged(pixels: &[u8], height: usize, width: usize, ran: &Ran) -> Result<bool, String> {
+/// The unchanged file leaves what the copy left where the screen got too small, and else the same sides and
+/// planes; its record is what the scores of the first edge picture with the last bounds read as, without
+/// those that are added. Hands back whether this is another record than the last edge picture gives.
+fn beside_unchanged(
+    pixels: &[u8],
+    height: usize,
+    width: usize,
+    ran: &Ran,
+    without: Option<(bool, Record)>,
+) -> Result<bool, String> {
     let fresh = || ImageBoard::new(numbers(pixels), height, width);
     let mut board = fresh();
     let whole = caught(|| board.get_pos_pixel()).is_some();
-    let own = record(&board);
-    let mut wanted = (ran.whole, ran.record);
+    let own = (whole, record(&board));
+    let last = without.unwrap_or((ran.whole, ran.record));
+    let mut wanted = last;
     if let (true, Some(bounds)) = (ran.seen.narrowed > 0, ran.seen.scanned) {
         let first = steps::edges(&fresh().get_gradient());
         let Record { height, width, .. } = ran.record;
-        wanted = from_first(&ran.record, &probed::widen(&first, [height - 2, width - 2], bounds));
+        let seen = probed::widen(&first, [height - 2, width - 2], bounds);
+        wanted = without_added(&ran.record, &seen);
     }
     let same = planes(&board).map(f32::to_bits).eq(ran.planes.iter().map(|x| x.to_bits()));
-    if (whole, own) != wanted || !same {
+    if own != wanted || !same {
         return Err(format!("the unchanged file leaves {own:?} and not {wanted:?}, planes {same}"));
     }
-    Ok(own != ran.record)
+    Ok(own != last)
 }
 
-/// Whether a run with these bounds and scores returns, and its record then.
-fn from_first(sides: &Record, seen: &Seen) -> (bool, Record) {
+/// Whether a run with these bounds, and these scores but for the two that 02, R-4, adds, returns, and its
+/// record then.
+fn without_added(sides: &Record, seen: &Seen) -> (bool, Record) {
     let fresh = Record { height: sides.height, width: sides.width, ..Record::default() };
-    let (columns, rows) = seen.scores.clone().expect("scores are stored");
+    let (mut columns, mut rows) = seen.scores.clone().expect("scores are stored");
+    for list in [&mut columns, &mut rows] {
+        list.remove(list.len() - 3);
+    }
     let read = caught(|| (steps::line(columns), steps::line(rows)));
     let Some(((pixelc, c0, c), (pixelr, r0, r))) = read else {
         return (false, fresh);
@@ -82,6 +98,19 @@ impl Traced {
     /// Both pitches in quarters, rows first.
     pub fn quarters(&self) -> [u32; 2] {
         [self.record.pixelr, self.record.pixelc].map(|bits| (f32::from_bits(bits) * 4.0) as u32)
+    }
+
+    /// Whether the columns, and the rows, read otherwise for the two scores that 02, R-4, adds.
+    pub fn by_added(&self) -> [bool; 2] {
+        let own = (self.whole, self.record);
+        let (whole, record) = self.without.unwrap_or(own);
+        let columns = |r: &Record| (r.c0, r.c, r.pixelc);
+        let rows = |r: &Record| (r.r0, r.r, r.pixelr);
+        let both = whole && self.whole;
+        [
+            both && columns(&record) != columns(&self.record),
+            both && rows(&record) != rows(&self.record),
+        ]
     }
 
     /// The votes of the rows and of the columns, which are read first.

@@ -53,24 +53,24 @@ pub fn bounds(edges: &Points) -> [usize; 8] {
 const STARTS: [[usize; 5]; 5] =
     [[0, 1, 2, 3, 4], [1, 0, 1, 2, 3], [2, 1, 0, 1, 2], [3, 2, 1, 0, 1], [4, 3, 2, 1, 0]];
 
-/// The list of column scores, as `get_pos_pixel` builds it.
+/// The list of column scores, as `get_pos_pixel` builds it with one more turn of its middle loop (02, R-4).
 pub fn column_scores(edges: &Points, [r_1, r_2, c_1, c_2]: [usize; 4]) -> Vec<usize> {
     let board = nothing();
     let score =
         |c: usize, k: usize| r_2 - r_1 - board.get_c_sum(edges, STARTS[k], c, c + 4, r_1, r_2)[k];
     let mut out = vec![score(c_1, 0), score(c_1, 1)];
-    out.extend((c_1..c_2 - 4).map(|c| score(c, 2)));
+    out.extend((c_1..c_2 - 3).map(|c| score(c, 2)));
     out.extend([score(c_2 - 4, 3), score(c_2 - 4, 4)]);
     out
 }
 
-/// The list of row scores, as `get_pos_pixel` builds it.
+/// The list of row scores, built likewise.
 pub fn row_scores(edges: &Points, [r_1, r_2, c_1, c_2]: [usize; 4]) -> Vec<usize> {
     let board = nothing();
     let score =
         |r: usize, k: usize| c_2 - c_1 - board.get_r_sum(edges, STARTS[k], c_1, c_2, r, r + 4)[k];
     let mut out = vec![score(r_1, 0), score(r_1, 1)];
-    out.extend((r_1..r_2 - 4).map(|r| score(r, 2)));
+    out.extend((r_1..r_2 - 3).map(|r| score(r, 2)));
     out.extend([score(r_2 - 4, 3), score(r_2 - 4, 4)]);
     out
 }
