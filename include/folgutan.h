@@ -144,7 +144,7 @@ typedef struct {
     uint32_t narrowed;            /* how often the planes were narrowed */
 } folgutan_located;
 
-/* Finds a board in the planes of a screen (01, Locating; 02, R-1 and R-3).
+/* Finds a board in the planes of a screen (01, Locating; 02, R-1, R-3 and R-4).
  *
  * board: only its sides, h and w, are looked at.
  * factor: 2 to 5, the same for each narrowing of the call. Both sides are
@@ -192,8 +192,13 @@ typedef struct {
  *   board.height and board.width as they are handed back
  *   (height - 2) * (width - 2) bytes, rows first, 1 for set and 0 for unset.
  *   Unless the answer is FOLGUTAN_TOO_SMALL, it is the picture that was scored;
- * - scores start with the column scores, followed by the row scores; after
- *   FOLGUTAN_TOO_SMALL they are unchanged.
+ * - scores start with the column scores, followed by the row scores. The board
+ *   spans the columns c_1 to c_2 and the rows r_1 to r_2 of the edge picture,
+ *   of which c_1 and r_1 are handed back. Each column from c_1 to c_2 has one
+ *   score, in order, c_2 - c_1 + 1 of them; then each row from r_1 to r_2 has
+ *   one, r_2 - r_1 + 1. (The Rust original has none for column c_2 - 2 and none
+ *   for row r_2 - 2.) Together they are at most h + w - 4. After
+ *   FOLGUTAN_TOO_SMALL scores are unchanged.
  * Entries further on keep their content: behind a narrowed edge picture nothing
  * is left of an earlier one. */
 folgutan_located folgutan_locate(folgutan_board board, size_t factor,

@@ -1,4 +1,4 @@
-/* Locating (01, Locating; 02, R-1 and R-3). */
+/* Locating (01, Locating; 02, R-1, R-3 and R-4). */
 #include "folgutan.h"
 
 #include "calls.h"
@@ -606,23 +606,32 @@ static uint32_t score(const uint8_t *from, size_t lane, size_t step, size_t step
     return (uint32_t)(steps - cost[k]);
 }
 
-/* The scores of one axis: `span` of them, the first strip from `from` on. */
+/* The scores of one axis, `count` of them, one for each column or row (02, R-4): the first two on the
+ * strip from `from` on, the last two on the last strip. */
 static void axis_scores(uint32_t *out, const uint8_t *from, size_t lane, size_t step, size_t steps,
-                        size_t span)
+                        size_t count)
 {
-    const uint8_t *last = from + (span - 4) * lane;
-    *out++ = score(from, lane, step, steps, 0);
-    *out++ = score(from, lane, step, steps, 1);
-    for (size_t at = 0; at < span - 4; at++)
-        *out++ = score(from + at * lane, lane, step, steps, 2);
-    *out++ = score(last, lane, step, steps, 3);
-    *out++ = score(last, lane, step, steps, 4);
+    for (size_t at = 0; at < count; at++) {
+        size_t strip = at < 2 ? 0 : at - 2 < count - 5 ? at - 2 : count - 5;
+        out[at] = score(from + strip * lane, lane, step, steps, at - strip);
+    }
 }
 
 /* The bounds after widening. */
 typedef struct {
     size_t r_1, r_2, c_1, c_2;
 } bounds;
+
+/* How many scores the columns have, and the rows. */
+static size_t across_of(bounds b)
+{
+    return b.c_2 - b.c_1 + 1;
+}
+
+static size_t down_of(bounds b)
+{
+    return b.r_2 - b.r_1 + 1;
+}
 
 /* Slices that are longer than asked for. */
 static call longer(size_t factor, size_t height, size_t width)
@@ -651,13 +660,13 @@ static void left_behind(const char *where, left l, call c, const float *values, 
                         bounds b)
 {
     size_t column = l.located.board.width - 2;
-    size_t across = b.c_2 - b.c_1, down = b.r_2 - b.r_1;
+    size_t across = across_of(b), down = down_of(b);
     planes_left(where, l, values, c, narrowed);
     edges_left(where, l, c, across + down);
     uint32_t *scores = memory(across + down, sizeof *scores);
     const uint8_t *corner = l.edges + b.r_1 * column + b.c_1;
-    axis_scores(scores, corner, 1, column, down, across);
-    axis_scores(scores + across, corner, column, 1, across, down);
+    axis_scores(scores, corner, 1, column, down - 1, across);
+    axis_scores(scores + across, corner, column, 1, across - 1, down);
     check(memcmp(l.scores, scores, (across + down) * sizeof *scores) == 0, where,
           "column scores, then row scores");
     free(scores);
@@ -700,7 +709,7 @@ static void unread_board(struct unread u, size_t factor)
     char where[120];
     snprintf(where, sizeof where, "%s, factor %zu", u.where, factor);
     size_t height = height_of(u.screen), width = width_of(u.screen), times = u.screen.times;
-    size_t across = u.widened.c_2 - u.widened.c_1, down = u.widened.r_2 - u.widened.r_1;
+    size_t across = across_of(u.widened), down = down_of(u.widened);
     call c = longer(factor, height, width);
     float *values = draw(u.screen);
     left l = locate(values, height, width, c);
@@ -757,7 +766,7 @@ static void read_board(const char *name, screen s, size_t factor, bounds widened
     char where[120];
     snprintf(where, sizeof where, "%s, factor %zu", name, factor);
     size_t height = height_of(s), width = width_of(s);
-    size_t across = widened.c_2 - widened.c_1, down = widened.r_2 - widened.r_1;
+    size_t across = across_of(widened), down = down_of(widened);
     drawn d = s.board;
     call c = longer(factor, height, width);
     float *values = draw(s);
@@ -784,6 +793,43 @@ static void read_board(const char *name, screen s, size_t factor, bounds widened
     free(values);
 }
 
+/* What a list reads as without the score of its last place but one. */
+static folgutan_reading read_without(const uint32_t *list, size_t len)
+{
+    uint32_t *less = memory(len - 1, sizeof *less);
+    for (size_t at = 0; at < len - 1; at++)
+        less[at] = list[at + (at >= len - 3)];
+    folgutan_reading reading = read_list(less, len - 1);
+    free(less);
+    return reading;
+}
+
+/* Boards whose right frame, or lower one, has its score at c_2 - 2, or r_2 - 2 (02, R-4): without it a
+ * column, or a row, is lost. */
+static const struct framed {
+    const char *where;
+    screen screen;
+    bounds widened;
+    size_t columns_lost, rows_lost;
+} framed[] = {
+    {"locate of a board, right frame", {{54, 59, 5, 3, 12, 11, 0}, 1}, {2, 51, 1, 56}, 1, 0},
+    {"locate of a board, lower frame", {{52, 50, 2, 2, 12, 11, 2}, 1}, {1, 49, 1, 46}, 0, 1},
+};
+
+static void framed_board(struct framed f, size_t factor)
+{
+    read_board(f.where, f.screen, factor, f.widened);
+    size_t height = height_of(f.screen), width = width_of(f.screen), across = across_of(f.widened);
+    float *values = draw(f.screen);
+    left l = locate(values, height, width, fitting(factor, height, width));
+    folgutan_reading columns = read_without(l.scores, across);
+    folgutan_reading rows = read_without(l.scores + across, down_of(f.widened));
+    check(columns.count + f.columns_lost == l.located.board.c, f.where, "columns without the score");
+    check(rows.count + f.rows_lost == l.located.board.r, f.where, "rows without the score");
+    drop(l);
+    free(values);
+}
+
 void test_locate(void)
 {
     refusals();
@@ -799,6 +845,8 @@ void test_locate(void)
         for (size_t at = 0; at < COUNT(unread); at++)
             if (unread[at].screen.times == 1 || unread[at].screen.times == factor)
                 unread_board(unread[at], factor);
+        for (size_t at = 0; at < COUNT(framed); at++)
+            framed_board(framed[at], factor);
         read_board("locate of a board", (screen){{60, 64, 7, 5, 12, 11, 2}, 1}, factor,
                    (bounds){4, 56, 2, 60});
         /* with a margin, which the widening goes out into by 1 to 4 points */

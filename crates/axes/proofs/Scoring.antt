@@ -26,7 +26,7 @@ pub scores-fit : (E : ℕ → ℕ → Bool) (from to c₁ c₂ : ℕ) → c₁ +
 scores-fit E from to c₁ c₂ span high most =
     let n = length-scores E from to c₁ c₂ in
     record {
-      shortest = omega (arith, n, count-least c₁ c₂);
+      shortest = omega (arith, n, count-least c₁ c₂ span);
       longest = omega (arith, n, count-most c₁ c₂ span);
       entries = largest-le (scores E from to c₁ c₂) 4096 (λ i h. omega (arith, scores-most E from to c₁ c₂ i));
     }

@@ -1,4 +1,4 @@
--- The score lists fit the slices that a call asks for (02, R-4): an axis has no more scores than the screen has columns, or rows.
+-- The score lists fit the slices that a call asks for (02, R-4): an axis has two scores fewer than the screen has columns, or rows, at most.
 -- Assumes nothing.
 use Prim.Native.Nat.{ℕ, _+_, _*_, _≤_, _<_}
 use mathlib.Core.Path.{_≡_, sym, ap, _∙_}
@@ -16,7 +16,7 @@ use Rattle.locate.proofs.Scored.{Scored, scored, sides-in, last-is}
 use Rattle.locate.proofs.Promises.{columns-fit, rows-fit}
 
 few : (a : Axis) {n side : ℕ} → a .scores ≡ scores (a .picture) (a .from) (a .to) (a .low) (a .high) → a .low + 4 ≤ a .high
-    → a .high < n → n ≤ side → length (a .scores) ≤ side
+    → a .high < n → n + 2 ≤ side → length (a .scores) + 2 ≤ side
 few a is span end most =
     omega (arith, ap length is ∙ length-scores (a .picture) (a .from) (a .to) (a .low) (a .high), count-most (a .low) (a .high) span)
 
@@ -29,8 +29,8 @@ lists-fit b f before passed large =
     let ends = rw (last-is f (b .height) (b .width) (before .planes)) at large in
     let s : Scored g = scored f (b .height) (b .width) (before .planes) (p .0) (p .1) ends in
     let sides = sides-in f (b .height) (b .width) (before .planes) (p .0) (p .1) ends in
-    let columns : length (g .columns) ≤ b .width = few (columnAxis g) (s .columns-are) (s .wide .columns) (s .wide .column-end) (sides .1) in
-    let rows : length (g .rows) ≤ b .height = few (rowAxis g) (s .rows-are) (s .wide .rows) (s .wide .row-end) (sides .0) in
+    let columns : length (g .columns) + 2 ≤ b .width = few (columnAxis g) (s .columns-are) (s .wide .columns) (s .wide .column-end) (sides .1) in
+    let rows : length (g .rows) + 2 ≤ b .height = few (rowAxis g) (s .rows-are) (s .wide .rows) (s .wide .row-end) (sides .0) in
     record {
       scores-in = omega (arith, columns, rows);
       columns-taken = sym (fit-answer (g .columns) (4 * (b .height + b .width)) (columns-fit g s) (omega (arith, columns)));

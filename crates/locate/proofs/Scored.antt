@@ -1,6 +1,6 @@
 -- The reference of a call whose loop of narrowings ended well: its bounds are wide and lie inside the picture, and its
 -- lists are the bounds' scores. Assumes nothing.
-use Prim.Native.Nat.{ℕ, _-_, _*_, _≤_}
+use Prim.Native.Nat.{ℕ, _+_, _-_, _*_, _≤_}
 use mathlib.Core.Path.{_≡_, refl}
 use mathlib.Core.Bool.{false}
 use mathlib.Core.List.{List}
@@ -49,10 +49,12 @@ module _ (f h w : ℕ) (planes : List Float) where
         let a = sound-around (omega arith) sound in
         wide _ (omega (arith, s .low-h)) (omega (arith, s .low-w)) (within a) (n .0) (n .1)
 
-    -- which is no larger than the screen
-    pub sides-in : (referenceOf f h w planes .row ≤ h) × (referenceOf f h w planes .column ≤ w)
+    -- whose edge picture is two rows and two columns smaller than the screen, or more
+    pub sides-in : (referenceOf f h w planes .row + 2 ≤ h) × (referenceOf f h w planes .column + 2 ≤ w)
     unfolding referenceOf
-    sides-in = (omega (arith, sound .high-h), omega (arith, sound .high-w))
+    sides-in =
+        let s = sound .fit .sides in
+        (omega (arith, sound .high-h, s .low-h), omega (arith, sound .high-w, s .low-w))
 
     pub scored : Scored (referenceOf f h w planes)
     unfolding referenceOf

@@ -97,10 +97,10 @@ scoresOf g = cond (g .last .tooSmall) [] (g .columns ++ g .rows)
 abbrev pub referenceFor : Board → ℕ → Lent → Reference
 referenceFor b f s = referenceOf f (b .height) (b .width) (s .planes)
 
--- 02, R-4: both score lists fit the slices that a call asks for. They stand in h + w entries, and with 4·(h + w) entries of scratch the
--- reading of either is not refused for its length, its scratch or its entries.
+-- 02, R-4: both score lists fit the slices that a call asks for. Of h + w entries at least four stay free, and with 4·(h + w) entries of
+-- scratch the reading of either is not refused for its length, its scratch or its entries.
 pub record ListsFit (h w : ℕ) (g : Reference) : Type 0 where
-  pub scores-in : length (g .columns) + length (g .rows) ≤ h + w
+  pub scores-in : length (g .columns) + length (g .rows) + 4 ≤ h + w
   pub columns-taken : lineAnswer (g .columns) (4 * (h + w)) ≡ 0
   pub rows-taken : lineAnswer (g .rows) (4 * (h + w)) ≡ 0
 

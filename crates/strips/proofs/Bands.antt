@@ -17,10 +17,8 @@ band-in r i m n stride to len h l =
     let k : r + i + m + 3 ≤ r + n + 3 = omega arith in
     omega (arith, mul-le-mul-right stride k)
 
-pub scratch-in : (k m n len : ℕ) → m ≤ n → k * (n + 4) ≤ len → k * (m + 4) ≤ len
-scratch-in k m n len h l =
-    let q : m + 4 ≤ n + 4 = omega arith in
-    omega (arith, mul-le-mul-left k q)
+pub scratch-in : (k m n len : ℕ) → m + 4 ≤ n → k * n ≤ len → k * (m + 4) ≤ len
+scratch-in k m n len h l = omega (arith, mul-le-mul-left k h)
 
 -- all row strips with target lane 2 lie within a picture that holds row r₂
 pub strips-in : (r₁ r₂ m stride c₂ len : ℕ) → r₁ + m + 3 ≤ r₂ → c₂ < stride → (r₂ + 1) * stride ≤ len → (r₁ + m + 3) * stride + c₂ < len

@@ -31,14 +31,11 @@ framed-length c₁ c₂ n = simp (length-append, length-tabFrom) (omega arith)
 abbrev pub middles : ℕ → ℕ → ℕ
 middles c₁ c₂ = c₂ - c₁ - 3
 
-framed-again : (c₁ c₂ n : ℕ) → (framed c₁ c₂ n ≡ framed c₁ c₂ (length (framed c₁ c₂ n) - 4)) × (4 ≤ length (framed c₁ c₂ n))
-framed-again c₁ c₂ n =
-    let e : n ≡ length (framed c₁ c₂ n) - 4 = omega (arith, framed-length c₁ c₂ n) in
-    (ap (framed c₁ c₂) e, omega (arith, framed-length c₁ c₂ n))
-
 places-are : (c₁ c₂ : ℕ) → places c₁ c₂ ≡ framed c₁ c₂ (placeCount c₁ c₂ - 4)
 unfolding placeCount
-places-are c₁ c₂ = framed-again c₁ c₂ (middles c₁ c₂) .0
+places-are c₁ c₂ =
+    let n : middles c₁ c₂ ≡ placeCount c₁ c₂ - 4 = omega (arith, framed-length c₁ c₂ (middles c₁ c₂)) in
+    ap (framed c₁ c₂) n
 
 pub count-is : (c₁ c₂ : ℕ) → placeCount c₁ c₂ ≡ length (places c₁ c₂)
 unfolding placeCount
@@ -48,9 +45,8 @@ pub place-count : (c₁ c₂ : ℕ) → c₁ + 4 ≤ c₂ → placeCount c₁ c�
 place-count c₁ c₂ h = count-is c₁ c₂ ∙ framed-length c₁ c₂ (middles c₁ c₂) ∙ omega arith
 
 -- what callers need of the number
-pub count-least : (c₁ c₂ : ℕ) → 4 ≤ placeCount c₁ c₂
-unfolding placeCount
-count-least c₁ c₂ = framed-again c₁ c₂ (middles c₁ c₂) .1
+pub count-least : (c₁ c₂ : ℕ) → c₁ + 4 ≤ c₂ → 5 ≤ placeCount c₁ c₂
+count-least c₁ c₂ h = omega (arith, place-count c₁ c₂ h)
 
 pub count-most : (c₁ c₂ : ℕ) → c₁ + 4 ≤ c₂ → placeCount c₁ c₂ ≤ c₂ - c₁ + 1
 count-most c₁ c₂ h = omega (arith, place-count c₁ c₂ h)
@@ -122,12 +118,11 @@ module _ (E : ℕ → ℕ → Bool) (from to c₁ c₂ : ℕ) where
       ap (map (score E from to)) (places-are c₁ c₂) ∙ rw (map-append (score E from to) (tab n p) _, map-tab (score E from to) p 0 n)
 
   -- the middle as a part of a list, and the border places at its ends, make the scores
-  pub joined : (n : ℕ) (d m u : List ℕ) → n ≡ placeCount c₁ c₂ → n ≤ length d →
+  pub joined : (n : ℕ) (d m u : List ℕ) → n ≡ placeCount c₁ c₂ → 4 ≤ n → n ≤ length d →
       m ≡ sweptScores E from to c₁ (length (midOf 2 (n - 2 - 2) d)) →
-      u ≡ bordered E from to c₁ c₂ (putMid 2 (n - 2 - 2) d m) → AtFront (scores E from to c₁ c₂) d u
-  joined n d m u count l em eu =
+      u ≡ bordered E from to c₁ c₂ (n - 2) (putMid 2 (n - 2 - 2) d m) → AtFront (scores E from to c₁ c₂) d u
+  joined n d m u count enough l em eu =
       let ys : List ℕ = sweptScores E from to c₁ (n - 4) in
-      let enough : 4 ≤ n = rw count (count-least c₁ c₂) in
       let len : length ys ≡ n - 4 = length-tabFrom 0 (n - 4) _ in
       let mid : length (midOf 2 (n - 2 - 2) d) ≡ n - 4 = mid-len 2 (n - 2) d (omega arith) ∙ omega arith in
       let is : m ≡ ys = rw mid at em in
@@ -135,4 +130,4 @@ module _ (E : ℕ → ℕ → Bool) (from to c₁ c₂ : ℕ) where
       let o : n - 2 ≡ 2 + length ys = omega arith in
       let t : length ys + 4 ≡ n = omega arith in
       front-by n (length-scores E from to c₁ c₂ ∙ rw count) l
-      (eu ∙ rw (← count, k, o, is) (parts d ys _ _ _ _ (omega arith) ∙ rw (t, scores-parts, ← count)))
+      (eu ∙ rw (k, o, is) (parts d ys _ _ _ _ (omega arith) ∙ rw (t, scores-parts, ← count)))

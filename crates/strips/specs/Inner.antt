@@ -27,9 +27,9 @@ placeCount c₁ c₂ = length (places c₁ c₂)
 abbrev pub twoScores : (ℕ → ℕ → Bool) → ℕ → ℕ → ℕ → ℕ → ℕ → List ℕ → List ℕ
 twoScores E from to c k i d = set (set d i (score E from to (at c k))) (i + 1) (score E from to (at c (k + 1)))
 
--- a list with the scores of the four border places: the first two, and the last two of as many as there are places
-abbrev pub bordered : (ℕ → ℕ → Bool) → ℕ → ℕ → ℕ → ℕ → List ℕ → List ℕ
-bordered E from to c₁ c₂ d = twoScores E from to (c₂ - 4) 3 (placeCount c₁ c₂ - 2) (twoScores E from to c₁ 0 0 d)
+-- a list with the scores of the four border places: its first two entries, and the two from entry `last` on
+abbrev pub bordered : (ℕ → ℕ → Bool) → ℕ → ℕ → ℕ → ℕ → ℕ → List ℕ → List ℕ
+bordered E from to c₁ c₂ last d = twoScores E from to (c₂ - 4) 3 last (twoScores E from to c₁ 0 0 d)
 
 -- w bytes, `stride` apart, stand side by side from o on; the others are as they were
 pub record Copied (e : List ℕ) (first stride w o : ℕ) (before after : List ℕ) : Type 0 where

@@ -38,7 +38,7 @@ pub fn place_count(c_1: usize, c_2: usize) -> usize
     c_2 - c_1 + 1
 }
 
-// The first strip's lanes 0 and 1, the last strip's lanes 3 and 4.
+// The first strip's lanes 0 and 1 into the first two entries, the last strip's lanes 3 and 4 into entries `last` and `last` + 1.
 fn border_scores(
     e: &[u8],
     down: usize,
@@ -47,14 +47,14 @@ fn border_scores(
     to: usize,
     c_1: usize,
     c_2: usize,
+    last: usize,
     out: &mut [u32],
 )
     requires { ⌜ (from ≤ to) × (to ≤ 4096) × (to * down + c_2 * across < length (now e)) × Marks (now e) × (c_1 + 4 ≤ c_2)
-        × (c_2 ≤ 4096) × (placeCount c_1 c_2 ≤ length (now out)) ⌝ }
-    ensures { λ _. ⌜ now (out .exit) ≡ bordered (points down across (now (e .entry))) from to c_1 c_2 (now (out .entry)) ⌝ }
+        × (last + 1 < length (now out)) ⌝ }
+    ensures { λ _. ⌜ now (out .exit) ≡ bordered (points down across (now (e .entry))) from to c_1 c_2 last (now (out .entry)) ⌝ }
 {
     two_scores(e, down, across, from, to, c_1, 0, 0, out);
-    let last = place_count(c_1, c_2) - 2;
     two_scores(e, down, across, from, to, c_2 - 4, 3, last, out);
 }
 
@@ -65,7 +65,7 @@ pub fn column_scores(edges: &[u8], stride: usize, b: Bounds, out: &mut [u32])
 {
     let last = place_count(b.c_1, b.c_2) - 2;
     lanes::sweep_scores(edges, stride, b.r_1, b.r_2, b.c_1, &mut out[2..last]);
-    border_scores(edges, stride, 1, b.r_1, b.r_2, b.c_1, b.c_2, out);
+    border_scores(edges, stride, 1, b.r_1, b.r_2, b.c_1, b.c_2, last, out);
 }
 
 // w bytes, `stride` apart, side by side from o on.
@@ -176,5 +176,5 @@ pub fn row_scores(edges: &[u8], stride: usize, b: Bounds, turned: &mut [u8], out
         turned,
         &mut out[2..last],
     );
-    border_scores(edges, 1, stride, b.c_1, b.c_2, b.r_1, b.r_2, out);
+    border_scores(edges, 1, stride, b.c_1, b.c_2, b.r_1, b.r_2, last, out);
 }

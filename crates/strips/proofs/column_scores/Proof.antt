@@ -24,8 +24,8 @@ at-swept c = c .before .before .before .before .before .before
 counted : (c : tie.After-place-count) → let b = at-start c .args .b in c .place-count .result ≡ placeCount (b .«c_1») (b .«c_2»)
 counted c = c .place-count .ensures
 
-enough : (c : tie.After-place-count) → 4 ≤ c .place-count .result
-enough c = rw (counted c) (count-least _ _)
+enough : (c : tie.After-place-count) → 5 ≤ c .place-count .result
+enough c = rw (counted c) (count-least _ _ (at-start c .pre .0 .columns))
 
 not-more : (c : tie.After-place-count) → let b = at-start c .args .b in c .place-count .result ≤ b .«c_2» - b .«c_1» + 1
 not-more c = let b = at-start c .args .b in omega (arith, counted c, count-most (b .«c_1») (b .«c_2») (at-start c .pre .0 .columns))
@@ -52,7 +52,9 @@ sweep-scores-requires : tie.Need-sweep-scores-requires
 sweep-scores-requires c κs = search (needs, enough (c .before), not-more (c .before), fits (c .before))
 
 border-scores-requires : tie.Need-border-scores-requires
-border-scores-requires c κs = search needs
+border-scores-requires c κs =
+    let n = at-count (c .before .before .before) in
+    search (needs, enough n, fits n)
 
 same-length : tie.Need-same-length
 same-length c = search needs
@@ -60,7 +62,7 @@ same-length c = search needs
 returns : tie.Need-returns
 returns c =
     let swept = at-swept c in
-    joined _ _ _ _ _ _ _ _ _ (counted (at-count swept)) (fits (at-count swept)) (swept .sweep-scores .ensures)
+    joined _ _ _ _ _ _ _ _ _ (counted (at-count swept)) (omega (arith, enough (at-count swept))) (fits (at-count swept)) (swept .sweep-scores .ensures)
     (c .before .before .border-scores .ensures)
 
 pub column-scores-spec : {M : Type 1} → statement M

@@ -3,11 +3,10 @@ use Prim.Native.Nat.{_+_, _-_, _≤_}
 use mathlib.Core.Path.{_≡_}
 use native.Mathlib.Omega.{arith}
 use denote.Ref.{now}
-use borrow.Rule.Slice.PartMut.{midOf, mid-len}
-use lib.ListN.{length}
+use lib.ListN.{length, length-take}
 use Rattle.lists.proofs.Picture.{flip-points}
 use Rattle.strips.specs.Inner.{placeCount}
-use Rattle.strips.proofs.Bands.{strips-in}
+use Rattle.strips.proofs.Bands.{scratch-in, strips-in}
 use Rattle.strips.proofs.Scores.{count-least, count-most, joined}
 use borrow.Author.Needs.{needs}
 use Rattle.strips.proofs.row_scores.Statement.{statement}
@@ -30,22 +29,14 @@ at-end c = c .before .before
 counted : (c : tie.After-place-count) → let b = at-start c .args .b in c .place-count .result ≡ placeCount (b .«r_1») (b .«r_2»)
 counted c = c .place-count .ensures
 
-enough : (c : tie.After-place-count) → 4 ≤ c .place-count .result
-enough c = rw (counted c) (count-least _ _)
+enough : (c : tie.After-place-count) → 5 ≤ c .place-count .result
+enough c = rw (counted c) (count-least _ _ (at-start c .pre .0 .rows))
 
 not-more : (c : tie.After-place-count) → let b = at-start c .args .b in c .place-count .result ≤ b .«r_2» - b .«r_1» + 1
 not-more c = let b = at-start c .args .b in omega (arith, counted c, count-most (b .«r_1») (b .«r_2») (at-start c .pre .0 .rows))
 
 fits : (c : tie.After-place-count) → c .place-count .result ≤ length (now (at-start c .args .out))
 fits c = omega (arith, counted c, at-start c .pre .2)
-
--- all but the border places are lent
-part : (c : tie.After-place-count) →
-    length (midOf 2 (c .place-count .result - 2 - 2) (now (at-start c .args .out))) + 4 ≡ c .place-count .result
-part c =
-    let n = c .place-count .result in
-    let e = mid-len 2 (n - 2) (now (at-start c .args .out)) (omega (arith, fits c)) in
-    omega (arith, e, enough c)
 
 place-count-requires : tie.Need-place-count-requires
 place-count-requires c κs = search needs
@@ -65,20 +56,20 @@ part-banded-scores-end c = search (needs, fits (c .before))
 banded-scores-requires : tie.Need-banded-scores-requires
 banded-scores-requires c κs =
     let n = c .before .before in
-    let p = at-start n .pre in
-    let e = part n in (
+    let p = at-start n .pre in (
       omega arith,
       omega arith,
       omega arith,
-      strips-in _ _ _ _ _ _ (omega (arith, e, not-more n)) (p .0 .inside) (p .0 .whole),
-      rw (e, counted n) (p .1),
+      simp length-take (strips-in _ _ _ _ _ _ (omega (arith, enough n, not-more n)) (p .0 .inside) (p .0 .whole)),
+      simp length-take (scratch-in _ _ (n .place-count .result) _ (omega (arith, enough n)) (rw (counted n) (p .1))),
       p .0 .marks,
     )
 
 border-scores-requires : tie.Need-border-scores-requires
 border-scores-requires c κs =
-    let p = at-start (at-count (at-banded c)) .pre in
-    (omega arith, omega arith, omega arith, p .0 .marks, p .0 .rows, omega arith, search (needs, p))
+    let n = at-count (at-banded c) in
+    let p = at-start n .pre in
+    (omega arith, omega arith, omega arith, p .0 .marks, p .0 .rows, search (needs, enough n, fits n))
 
 same-length : tie.Need-same-length
 same-length c = search needs
@@ -92,7 +83,7 @@ returns c =
     let n = at-count banded in
     let a = at-start n .args in
     rw (flip-points (a .stride) 1 (now (a .edges)))
-    (joined _ _ _ _ _ _ _ _ _ (counted n) (fits n) (banded .banded-scores .ensures) (at-end c .border-scores .ensures))
+    (joined _ _ _ _ _ _ _ _ _ (counted n) (omega (arith, enough n)) (fits n) (banded .banded-scores .ensures) (at-end c .border-scores .ensures))
 
 pub row-scores-spec : {M : Type 1} → statement M
 row-scores-spec =
