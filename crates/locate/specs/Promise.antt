@@ -53,7 +53,7 @@ pub record Unbeaten (a : Axis) (x : Handed) : Type 0 where
   -- both spans are at least 4
   pub long : a .from + 4 ≤ a .to
   pub span : a .low + 4 ≤ a .high
-  -- it has as many scores as 01 says, one for each place; these are handed back, and lines remain in them
+  -- it has as many scores as 02, R-4, says, one for each place; these are handed back, and lines remain in them
   pub counted : length (a .scores) ≡ scoreCount (a .low) (a .high)
   pub placed : length (places (a .low) (a .high)) ≡ length (a .scores)
   pub handed : (i : ℕ) → i < length (a .scores) → x .score i ≡ getD (a .scores) i 0
