@@ -193,11 +193,13 @@ typedef struct {
  *   (height - 2) * (width - 2) bytes, rows first, 1 for set and 0 for unset.
  *   Unless the answer is FOLGUTAN_TOO_SMALL, it is the picture that was scored;
  * - scores start with the column scores, followed by the row scores. The board
- *   spans the columns c_1 to c_2 and the rows r_1 to r_2 of the edge picture,
- *   of which c_1 and r_1 are handed back. Each column from c_1 to c_2 has one
- *   score, in order, c_2 - c_1 + 1 of them; then each row from r_1 to r_2 has
- *   one, r_2 - r_1 + 1. (The Rust original has none for column c_2 - 2 and none
- *   for row r_2 - 2.) Together they are at most h + w - 4. After
+ *   spans the columns c_1 to c_2 and the rows r_1 to r_2 of the edge picture.
+ *   Each column from c_1 to c_2 has one score, in order, c_2 - c_1 + 1 of them;
+ *   then each row from r_1 to r_2 has one, r_2 - r_1 + 1. (The Rust original has
+ *   none for column c_2 - 2 and none for row r_2 - 2.) Both spans are at least
+ *   4, and both lists together have at most h + w - 4 entries. After
+ *   FOLGUTAN_DONE board.c_1 and board.r_1 tell where the spans begin; where they
+ *   end, and so where the row scores begin, is not handed back. After
  *   FOLGUTAN_TOO_SMALL scores are unchanged.
  * Entries further on keep their content: behind a narrowed edge picture nothing
  * is left of an earlier one. */

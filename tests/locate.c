@@ -793,7 +793,7 @@ static void read_board(const char *name, screen s, size_t factor, bounds widened
     free(values);
 }
 
-/* What a list reads as without the score of its last place but one. */
+/* What a list reads as without the third score from its end. */
 static folgutan_reading read_without(const uint32_t *list, size_t len)
 {
     uint32_t *less = memory(len - 1, sizeof *less);
@@ -804,16 +804,23 @@ static folgutan_reading read_without(const uint32_t *list, size_t len)
     return reading;
 }
 
-/* Boards whose right frame, or lower one, has its score at c_2 - 2, or r_2 - 2 (02, R-4): without it a
- * column, or a row, is lost. */
+/* Whether the third score from the end of a list is above the one before, and none behind is larger. */
+static int peaks(const uint32_t *list, size_t len)
+{
+    return list[len - 3] > list[len - 4] && list[len - 3] >= list[len - 2]
+           && list[len - 3] >= list[len - 1];
+}
+
+/* Boards whose right frame lies at column c_2 - 2, or whose lower one lies at row r_2 - 2 (02, R-4):
+ * without its score a column, or a row, is lost. */
 static const struct framed {
     const char *where;
     screen screen;
     bounds widened;
     size_t columns_lost, rows_lost;
 } framed[] = {
-    {"locate of a board, right frame", {{54, 59, 5, 3, 12, 11, 0}, 1}, {2, 51, 1, 56}, 1, 0},
-    {"locate of a board, lower frame", {{52, 50, 2, 2, 12, 11, 2}, 1}, {1, 49, 1, 46}, 0, 1},
+    {"locate of a board, right frame", {{50, 50, 5, 1, 13, 10, 2}, 1}, {2, 45, 0, 42}, 1, 0},
+    {"locate of a board, lower frame", {{58, 67, 3, 6, 10, 14, 2}, 1}, {1, 54, 3, 63}, 0, 1},
 };
 
 static void framed_board(struct framed f, size_t factor)
@@ -822,8 +829,11 @@ static void framed_board(struct framed f, size_t factor)
     size_t height = height_of(f.screen), width = width_of(f.screen), across = across_of(f.widened);
     float *values = draw(f.screen);
     left l = locate(values, height, width, fitting(factor, height, width));
+    const uint32_t *below = l.scores + across;
     folgutan_reading columns = read_without(l.scores, across);
-    folgutan_reading rows = read_without(l.scores + across, down_of(f.widened));
+    folgutan_reading rows = read_without(below, down_of(f.widened));
+    check(f.columns_lost ? peaks(l.scores, across) : peaks(below, down_of(f.widened)), f.where,
+          "the frame's score");
     check(columns.count + f.columns_lost == l.located.board.c, f.where, "columns without the score");
     check(rows.count + f.rows_lost == l.located.board.r, f.where, "rows without the score");
     drop(l);

@@ -1,4 +1,4 @@
-// Both axes of an edge picture over some bounds: column scores, then row scores, in one slice (01, "Path scores"), and
+// Both axes of an edge picture over some bounds: column scores, then row scores, in one slice (01, "Path scores"; 02, R-4), and
 // what each list reads as (01, "Lines and votes"). Definitions: strips' columnScores and rowScores, reading's
 // quartersOf; specs/Inner is for the code. Laws for callers: proofs/Scoring.
 ghost use mathlib.Core.List.{_++_};

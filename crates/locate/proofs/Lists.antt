@@ -32,7 +32,9 @@ lists-fit b f before passed large =
     let columns : length (g .columns) + 2 ≤ b .width = few (columnAxis g) (s .columns-are) (s .wide .columns) (s .wide .column-end) (sides .1) in
     let rows : length (g .rows) + 2 ≤ b .height = few (rowAxis g) (s .rows-are) (s .wide .rows) (s .wide .row-end) (sides .0) in
     record {
+      columns-span = s .wide .columns;
+      rows-span = s .wide .rows;
       scores-in = omega (arith, columns, rows);
-      columns-taken = sym (fit-answer (g .columns) (4 * (b .height + b .width)) (columns-fit g s) (omega (arith, columns)));
-      rows-taken = sym (fit-answer (g .rows) (4 * (b .height + b .width)) (rows-fit g s) (omega (arith, rows)));
+      columns-taken = sym (fit-answer (g .columns) _ (columns-fit g s) (omega (arith, columns)));
+      rows-taken = sym (fit-answer (g .rows) _ (rows-fit g s) (omega (arith, rows)));
     }

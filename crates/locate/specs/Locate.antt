@@ -97,9 +97,11 @@ scoresOf g = cond (g .last .tooSmall) [] (g .columns ++ g .rows)
 abbrev pub referenceFor : Board → ℕ → Lent → Reference
 referenceFor b f s = referenceOf f (b .height) (b .width) (s .planes)
 
--- 02, R-4: both score lists fit the slices that a call asks for. Of h + w entries at least four stay free, and with 4·(h + w) entries of
--- scratch the reading of either is not refused for its length, its scratch or its entries.
+-- 02, R-4: both spans are at least 4, and both score lists fit the slices that a call asks for. Of h + w entries at least four stay free,
+-- and with 4·(h + w) entries of scratch the reading of either is not refused for its length, its scratch or its entries.
 pub record ListsFit (h w : ℕ) (g : Reference) : Type 0 where
+  pub columns-span : g .bounds .«c_1» + 4 ≤ g .bounds .«c_2»
+  pub rows-span : g .bounds .«r_1» + 4 ≤ g .bounds .«r_2»
   pub scores-in : length (g .columns) + length (g .rows) + 4 ≤ h + w
   pub columns-taken : lineAnswer (g .columns) (4 * (h + w)) ≡ 0
   pub rows-taken : lineAnswer (g .rows) (4 * (h + w)) ≡ 0

@@ -1,4 +1,4 @@
--- What locating is held to: by the rules of 01, "Locating", and 02, R-1 and R-3, from the factor, the sides and the planes as handed in,
+-- What locating is held to: by the rules of 01, "Locating", and 02, R-1, R-3 and R-4, from the factor, the sides and the planes as handed in,
 -- and from nothing else.
 use Prim.Native.Nat.{ℕ, _-_}
 use mathlib.Core.Bool.{Bool}

@@ -1,4 +1,4 @@
-// Locating the board (01, "Locating"; 02, R-1 and R-3). It refuses with 13, then 1, 3 and 4, then 5 to 9. Definitions:
+// Locating the board (01, "Locating"; 02, R-1, R-3 and R-4). It refuses with 13, then 1, 3 and 4, then 5 to 9. Definitions:
 // specs/Reference (what it is held to, from the factor, sides and planes as handed in), specs/Locate (what a call hands
 // back and leaves), specs/Promise (on the same edge picture no walk and no vote beats what it hands back). The loop of
 // narrowings is crate narrowings, the scores and their readings crate axes.

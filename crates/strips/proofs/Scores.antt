@@ -1,5 +1,5 @@
--- The scored places and the score list: how many they are, their entries, and how the parts make the list. Only `middles` and
--- `place-count` know the number. Assumes nothing.
+-- The scored places and the score list: how many they are, their entries, and how the parts make the list. Only `middles`,
+-- `place-count` and the two bounds beside it know the number. Assumes nothing.
 use Prim.Native.Nat.{ℕ, zero, suc, _+_, _-_, _≤_, _<_}
 use mathlib.Core.Path.{_≡_, refl, ap, _∙_}
 use mathlib.Core.Bool.{Bool}

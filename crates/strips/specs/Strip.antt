@@ -1,5 +1,5 @@
 -- 01, "Path scores", with 02, R-4: the scored places and the score lists. Rows are the columns of the flipped picture.
-use Prim.Native.Nat.{ℕ, _+_, _-_, _≤_, _<_}
+use Prim.Native.Nat.{ℕ, _+_, _-_, _≤_, _<_, min, max}
 use mathlib.Core.Path.{_≡_}
 use mathlib.Core.Bool.{Bool}
 use mathlib.Core.List.{List, [], _∷_, _++_, map}
@@ -18,12 +18,11 @@ places c₁ c₂ =
 abbrev pub scoreCount : ℕ → ℕ → ℕ
 scoreCount c₁ c₂ = c₂ - c₁ + 1
 
--- a place of column c: its target lane, on a strip within columns c_1 to c_2
+-- the place of column c: on the strip that has c in its middle, or on the first or the last one of columns c_1 to c_2, the lane that is c
 pub record PlaceOf (c₁ c₂ c : ℕ) (p : Place) : Type 0 where
-  pub from-first : c₁ ≤ p .strip
-  pub to-last : p .strip + 4 ≤ c₂
-  pub on-strip : p .lane ≤ 4
+  pub strip-is : p .strip ≡ max c₁ (min (c - 2) (c₂ - 4))
   pub column-is : p .strip + p .lane ≡ c
+  pub on-strip : p .lane ≤ 4
 
 -- each column from c_1 to c_2 has one score, and they are in order: entry i is that of column c_1 + i
 pub record EachColumn (c₁ c₂ : ℕ) : Type 0 where

@@ -1,5 +1,5 @@
-// Column and row scores (01, "Path scores"). Their promises rest on specs/Strip; walking strips down is the crate lanes.
-// Laws for callers: proofs/Scores.
+// Column and row scores (01, "Path scores"; 02, R-4). Their promises rest on specs/Strip; walking strips down is the crate
+// lanes. Laws for callers: proofs/Scores, and that each column has one score, in order: proofs/Columns.
 use board::Bounds;
 ghost use mathlib.Core.Path.{_≡_};
 ghost use Prim.Native.Nat.{_≤_, _<_, _+_, _*_, _-_};

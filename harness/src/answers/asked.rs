@@ -51,7 +51,7 @@ pub struct Asked {
 /// Seeds that are tried for one screen.
 const SEEDS: u64 = 10_000;
 
-/// The least rows and columns of a board that is read.
+/// The least rows and columns that are asked of a board.
 const CELLS: usize = 3;
 
 impl Asked {
@@ -68,8 +68,9 @@ impl Asked {
         Err(format!("no screen was found for {self:?}"))
     }
 
-    /// A board that is read has unlike pitches, so that rows taken for columns would show. This is asked of
-    /// the scores without those that 02, R-4, adds, so that the stored screens stay what they were.
+    /// Of a board that is read, unlike pitches are asked, so that rows taken for columns would show, of its
+    /// scores without those that 02, R-4, adds: so the stored screens stay. With these its pitches can be
+    /// alike.
     fn fits(&self, run: &Traced) -> bool {
         let board = run.without.is_some_and(|(whole, record)| {
             whole && record.r.min(record.c) >= CELLS && record.pixelr != record.pixelc

@@ -1,7 +1,8 @@
 //! Inputs of the screen program (01, Screen program) and what it prints: NAME.in and NAME.out.
 //! Where the Rust reads the board, the values are its fields, its pitches times 4, and its votes and
 //! narrowings. Where it returns early or panics, its sides and narrowings, and 01's rule: the number
-//! for that, and zeros. The Rust knows nothing of bad input; there all is 01's rule.
+//! for that, and zeros. The Rust is the copy that is changed as 02 says (build.rs); it knows nothing of bad
+//! input, and there all is 01's rule.
 
 use super::asked::{Asked, Kind};
 use crate::original::locate::Traced;

@@ -170,7 +170,7 @@ pub fn scores(run: &Run) -> Outcome {
             Err(format!("case {count}, row {row}, row length {stride}, {b:?}: {found}{picture}"))
         })
     };
-    // one column set, the last but two of the span, or one row: the place of the added score (02, R-4)
+    // only column c_2 - 2 set, or only row r_2 - 2: the places of the added scores (02, R-4)
     for (rows, columns) in [(5, 7), (5, 5), (7, 5), (9, 40)] {
         let set_column = |at: usize| (at % columns == columns - 3) as u8;
         let set_row = |at: usize| (at / columns == rows - 3) as u8;

@@ -158,9 +158,9 @@ pub const DEPARTURES: &[Built] = &[
 /// A board that every factor reads.
 const SMALL: Built = board([60, 64], [7, 5], [12, 11], 0);
 
-/// Boards whose right frame, or lower one, is read by an added score (02, R-4), with the rows and columns
+/// Boards of which a column, or a row, more is read with the added scores (02, R-4): the rows and columns
 /// that are read, and those that the unchanged Rust reads.
-pub const FRAMED: &[(Built, [usize; 2], [usize; 2])] = &[
+pub const ONE_MORE: &[(Built, [usize; 2], [usize; 2])] = &[
     (board([58, 61], [7, 5], [12, 11], 0), [4, 5], [4, 4]),
     (board([56, 57], [7, 7], [12, 11], 0), [4, 4], [3, 4]),
 ];

@@ -1,10 +1,10 @@
 //! Locating beside `get_pos_pixel`, with each factor: every field, the planes, the edge picture of the
 //! last picture and both score lists. All comes from the probed copy, which narrows by the factor, goes on
-//! with that picture and scores the last place but one; with the factor of the unchanged file this is run
-//! too, and must do the same on every screen that gets too small, and on the others what the first edge
-//! picture gives without the two added scores.
+//! with that picture and scores column c_2 - 2 and row r_2 - 2 too; with the factor of the unchanged file
+//! this is run too, and must do the same on every screen that gets too small, and on the others what the
+//! first edge picture gives without the two added scores.
 
-use super::built::{Built, End, DEPARTURES, FRAMED, LARGE, READ_NARROWED};
+use super::built::{Built, End, DEPARTURES, LARGE, ONE_MORE, READ_NARROWED};
 use super::lent::Lent;
 use super::met::{as_built, Met, Row};
 use super::values::UNFIT;
@@ -58,7 +58,7 @@ pub fn compare(run: &Run) -> Outcome {
     for built in DEPARTURES.iter().chain(READ_NARROWED).chain(LARGE) {
         cases.built(built)?;
     }
-    for (built, wanted, unchanged) in FRAMED {
+    for (built, wanted, unchanged) in ONE_MORE {
         cases.built(built)?;
         let run = traced(&built.pixels(), built.height, built.width, built.factor)?;
         let counts = |record: Record| [record.r, record.c];
@@ -224,7 +224,7 @@ const ANSWER: &str = "any screen";
 const READ: &str = "a screen that is read, answer 0";
 const NARROWED: &str = "a screen that is narrowed";
 const LAST_EDGES: &str = "a screen that is narrowed and does not get too small";
-const LAST_BUT_ONE: &str = "a screen that does not get too small";
+const ADDED_SCORES: &str = "a screen that does not get too small";
 /// Parts of it: what reads otherwise.
 const COLUMNS_MOVE: &str = "columns";
 const ROWS_MOVE: &str = "rows";
@@ -248,7 +248,7 @@ const BY_5_PANICS: &str = "by 5, panics";
 const ROWS: &[Row] = &[
     (TOO_SMALL, &[]),
     (LAST_EDGES, &[]),
-    (LAST_BUT_ONE, &[COLUMNS_MOVE, ROWS_MOVE]),
+    (ADDED_SCORES, &[COLUMNS_MOVE, ROWS_MOVE]),
     (COLUMNS_NO_GAP, &[]),
     (COLUMNS_FAR, &[ROWS_READ, ROWS_FAR]),
     (COLUMNS_FAR_ROWS_NO_GAP, &[]),
@@ -394,8 +394,9 @@ impl Cases {
             self.moved += (moved && self.met.built) as u64;
         }
         for (part, otherwise) in [COLUMNS_MOVE, ROWS_MOVE].into_iter().zip(by_added) {
-            if otherwise && call.factor == OWN_FACTOR {
-                self.met.count_part(LAST_BUT_ONE, part);
+            // the unchanged file reads these lists, without the added scores, where nothing was narrowed
+            if otherwise && narrowed == 0 && call.factor == OWN_FACTOR {
+                self.met.count_part(ADDED_SCORES, part);
             }
         }
         match (answer, returns) {

@@ -17,7 +17,7 @@ pub struct Traced {
     pub record: Record,
     pub planes: Vec<f32>,
     pub seen: Seen,
-    /// What the scores without the two that 02, R-4, adds read as: whether both lists do, and the record
+    /// What the scores without the two that 02, R-4, adds read as: whether both lists read, and the record
     /// then. None where nothing was scored.
     pub without: Option<(bool, Record)>,
     /// Whether the unchanged file was run, and came to another record by the first edge picture.
