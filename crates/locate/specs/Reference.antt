@@ -1,5 +1,5 @@
--- What locating is held to: by the rules of 01, "Locating", and 02, R-1, R-3 and R-4, from the factor, the sides and the planes as handed in,
--- and from nothing else.
+-- What locating is held to: by the rules of 01, "Locating", and 02, R-1, R-3 and R-4, from the factor, the sides and the planes as handed
+-- in, and from nothing else.
 use Prim.Native.Nat.{ℕ, _-_}
 use mathlib.Core.Bool.{Bool}
 use mathlib.Core.List.{List}
