@@ -1,6 +1,6 @@
 -- The score lists fit the slices that a call asks for (02, R-4): an axis has two scores fewer than the screen has columns, or rows, at most.
 -- Assumes nothing.
-use Prim.Native.Nat.{ℕ, _+_, _*_, _≤_, _<_}
+use Prim.Native.Nat.{ℕ, _+_, _≤_, _<_}
 use mathlib.Core.Path.{_≡_, sym, ap, _∙_}
 use mathlib.Core.Bool.{false}
 use native.Mathlib.Omega.{arith}
