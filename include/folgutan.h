@@ -71,17 +71,21 @@ extern "C" {
 #define FOLGUTAN_BAD_NUMBER 11     /* a number is above its limit */
 #define FOLGUTAN_OUTSIDE 12        /* a sampled place is not in the picture */
 #define FOLGUTAN_BAD_FACTOR 13     /* a factor is not 2 to 5 */
+#define FOLGUTAN_NOT_ON_BOARD 14   /* a cell is not on the board */
 
 /* Reading one list has the two answers of the columns. */
 #define FOLGUTAN_NO_GAP FOLGUTAN_COLUMNS_NO_GAP
 #define FOLGUTAN_TOO_FAR FOLGUTAN_COLUMNS_TOO_FAR
 
-/* The board record (01, Load). It is passed and handed back by value. */
+/* The board record (01, Load; 02, R-5). It is passed and handed back by value. */
 typedef struct {
     size_t height, width;  /* sides of the picture in the planes, in pixels */
-    size_t r_1, c_1;       /* top row and left column of the board */
-    size_t r0, c0;         /* where the grid of cells begins, from there: the
-                            * smallest offset with the most votes. No line
+    size_t r_1, c_1;       /* the corner: top row and left column of the board */
+    size_t r_2, c_2;       /* the far corner: its bottom row and right column
+                            * themselves, not one past. Set by locating alone,
+                            * and looked at by no call */
+    size_t r0, c0;         /* where the grid of cells begins, from the corner:
+                            * the smallest offset with the most votes. No line
                             * has to lie there */
     size_t r, c;           /* rows and columns of cells */
     float pixelr, pixelc;  /* pitch of the cells, down and across, in pixels */
@@ -144,7 +148,8 @@ typedef struct {
     uint32_t narrowed;            /* how often the planes were narrowed */
 } folgutan_located;
 
-/* Finds a board in the planes of a screen (01, Locating; 02, R-1, R-3 and R-4).
+/* Finds a board in the planes of a screen (01, Locating; 02, R-1 and R-3 to
+ * R-5).
  *
  * board: only its sides, h and w, are looked at.
  * factor: 2 to 5, the same for each narrowing of the call. Both sides are
@@ -161,11 +166,13 @@ typedef struct {
  *   4 * (h + w). What these entries hold does not matter, and they are free
  *   afterwards. Entries further on keep their content.
  *
- * FOLGUTAN_DONE: the record is the board's. Its sides, corner, offsets and
+ * FOLGUTAN_DONE: the record is the board's. Its sides, corners, offsets and
  *   pitches are in pixels of the planes as they are left, also after a
  *   narrowing: sampling takes this record and these planes as they are. With n
  *   narrowings a pixel of them is factor^n by factor^n pixels of the screen as
- *   it came in. The count of rows or of columns can be 0.
+ *   it came in. r_1 + 4 <= r_2 <= height - 3 and c_1 + 4 <= c_2 <= width - 3.
+ *   The count of rows or of columns can be 0. The cells need not end at the far
+ *   corner, and points of the last ones can lie past it.
  * Refusals, the first that holds:
  *   FOLGUTAN_BAD_FACTOR   factor is outside 2 to 5
  *   FOLGUTAN_BAD_SIDE     h or w is below 12, below 4 * factor (16 for 4, 20
@@ -183,7 +190,10 @@ typedef struct {
  *                             apart
  *   FOLGUTAN_COLUMNS_TOO_FAR  column lines are some 206 or more apart
  *   FOLGUTAN_ROWS_NO_GAP, FOLGUTAN_ROWS_TOO_FAR  the same of the rows
- *   Then the record has the new sides, and its other fields are as given.
+ *   Then the record has the new sides, and its other fields are as given, so
+ *   that after a narrowing a far corner as given can lie past the sides. A record
+ *   given with r_1 < r_2 < height and c_1 < c_2 < width has it afterwards too,
+ *   wherever its sides are unchanged.
  *
  * After FOLGUTAN_DONE and the further refusals:
  * - planes hold the picture, narrowed as often as `narrowed` says and packed by
@@ -198,9 +208,9 @@ typedef struct {
  *   then each row from r_1 to r_2 has one, r_2 - r_1 + 1. (The Rust original has
  *   none for column c_2 - 2 and none for row r_2 - 2.) Both spans are at least
  *   4, and both lists together have at most h + w - 4 entries. After
- *   FOLGUTAN_DONE board.c_1 and board.r_1 tell where the spans begin; where they
- *   end, and so where the row scores begin, is not handed back. After
- *   FOLGUTAN_TOO_SMALL scores are unchanged.
+ *   FOLGUTAN_DONE these four are the record's, so that row scores begin at entry
+ *   board.c_2 - board.c_1 + 1; after the refusals they are not handed back.
+ *   After FOLGUTAN_TOO_SMALL scores are unchanged.
  * Entries further on keep their content: behind a narrowed edge picture nothing
  * is left of an earlier one. */
 folgutan_located folgutan_locate(folgutan_board board, size_t factor,
@@ -239,12 +249,14 @@ typedef struct {
 folgutan_reading folgutan_read_line(const uint32_t *list, size_t list_len,
                                     uint32_t *scratch, size_t scratch_len);
 
-/* Samples one cell of a board (01, Cell sampling; 02, R-2).
+/* Samples one cell of a board (01, Cell sampling; 02, R-2 and R-5).
  *
- * board: sides, corner, offsets and pitches are taken; r and c are not looked
- *   at, so that a cell outside the board can be sampled too.
+ * board: a record from locating, or one of the caller's own. Sides, corner,
+ *   offsets, pitches and the counts r and c are taken; r_2 and c_2 are not
+ *   looked at.
  * planes: as locating leaves them.
- * x, y: the board row and the board column of the cell.
+ * x, y: the board row and the board column of the cell, x below board.r and y
+ *   below board.c.
  * out: 3 * size * size values; entry k * size * size + i * size + j is plane k
  *   at point (i, j) of the cell. Size 0 writes nothing, and size 24, the
  *   largest, FOLGUTAN_MOST_CELL_VALUES values.
@@ -262,8 +274,11 @@ folgutan_reading folgutan_read_line(const uint32_t *list, size_t list_len,
  *   FOLGUTAN_BAD_PITCH    pixelr or pixelc is not 8.0 to 200.0
  *   FOLGUTAN_BAD_NUMBER   x, y, r_1, c_1, r0 or c0 is above 4096, or size
  *                         above 24
+ *   FOLGUTAN_NOT_ON_BOARD  x is not below board.r, or y not below board.c; at
+ *                         size 0 too. Where a count is 0, that is every cell
  *   FOLGUTAN_SHORT_SLICE  out_len is below 3 * size * size
- *   FOLGUTAN_OUTSIDE      a sampled row or column is not in the picture
+ *   FOLGUTAN_OUTSIDE      a sampled row or column is not in the picture, which
+ *                         can be so of a cell on the board of a located record
  *   Then nothing is written. */
 uint32_t folgutan_sample(folgutan_board board,
                          const float *planes, size_t planes_len,

@@ -31,7 +31,7 @@ uint32_t measured_sample(folgutan_board board, const float *planes, size_t plane
 
 /* Of one call: the most stack that it took, and how often it gave each answer since the counts were
  * last cleared. */
-enum { ANSWERS = 14 };
+enum { ANSWERS = 15 };
 typedef struct {
     const char *name;
     size_t most_stack;

@@ -16,26 +16,28 @@ _Static_assert(offsetof(folgutan_board, height) == 0, "height");
 _Static_assert(offsetof(folgutan_board, width) == 8, "width");
 _Static_assert(offsetof(folgutan_board, r_1) == 16, "r_1");
 _Static_assert(offsetof(folgutan_board, c_1) == 24, "c_1");
-_Static_assert(offsetof(folgutan_board, r0) == 32, "r0");
-_Static_assert(offsetof(folgutan_board, c0) == 40, "c0");
-_Static_assert(offsetof(folgutan_board, r) == 48, "r");
-_Static_assert(offsetof(folgutan_board, c) == 56, "c");
-_Static_assert(offsetof(folgutan_board, pixelr) == 64, "pixelr");
-_Static_assert(offsetof(folgutan_board, pixelc) == 68, "pixelc");
-_Static_assert(sizeof(folgutan_board) == 72, "folgutan_board");
+_Static_assert(offsetof(folgutan_board, r_2) == 32, "r_2");
+_Static_assert(offsetof(folgutan_board, c_2) == 40, "c_2");
+_Static_assert(offsetof(folgutan_board, r0) == 48, "r0");
+_Static_assert(offsetof(folgutan_board, c0) == 56, "c0");
+_Static_assert(offsetof(folgutan_board, r) == 64, "r");
+_Static_assert(offsetof(folgutan_board, c) == 72, "c");
+_Static_assert(offsetof(folgutan_board, pixelr) == 80, "pixelr");
+_Static_assert(offsetof(folgutan_board, pixelc) == 84, "pixelc");
+_Static_assert(sizeof(folgutan_board) == 88, "folgutan_board");
 
 _Static_assert(offsetof(folgutan_loaded, board) == 0, "board");
-_Static_assert(offsetof(folgutan_loaded, answer) == 72, "answer");
-_Static_assert(sizeof(folgutan_loaded) == 80, "folgutan_loaded");
+_Static_assert(offsetof(folgutan_loaded, answer) == 88, "answer");
+_Static_assert(sizeof(folgutan_loaded) == 96, "folgutan_loaded");
 
 _Static_assert(offsetof(folgutan_located, board) == 0, "board");
-_Static_assert(offsetof(folgutan_located, answer) == 72, "answer");
-_Static_assert(offsetof(folgutan_located, quarterr) == 76, "quarterr");
-_Static_assert(offsetof(folgutan_located, quarterc) == 80, "quarterc");
-_Static_assert(offsetof(folgutan_located, votesr) == 84, "votesr");
-_Static_assert(offsetof(folgutan_located, votesc) == 88, "votesc");
-_Static_assert(offsetof(folgutan_located, narrowed) == 92, "narrowed");
-_Static_assert(sizeof(folgutan_located) == 96, "folgutan_located");
+_Static_assert(offsetof(folgutan_located, answer) == 88, "answer");
+_Static_assert(offsetof(folgutan_located, quarterr) == 92, "quarterr");
+_Static_assert(offsetof(folgutan_located, quarterc) == 96, "quarterc");
+_Static_assert(offsetof(folgutan_located, votesr) == 100, "votesr");
+_Static_assert(offsetof(folgutan_located, votesc) == 104, "votesc");
+_Static_assert(offsetof(folgutan_located, narrowed) == 108, "narrowed");
+_Static_assert(sizeof(folgutan_located) == 112, "folgutan_located");
 
 _Static_assert(offsetof(folgutan_reading, answer) == 0, "answer");
 _Static_assert(offsetof(folgutan_reading, pitch) == 4, "pitch");
@@ -53,6 +55,7 @@ _Static_assert(FOLGUTAN_ROWS_NO_GAP == 8 && FOLGUTAN_ROWS_TOO_FAR == 9, "answers
 _Static_assert(FOLGUTAN_NO_GAP == 6 && FOLGUTAN_TOO_FAR == 7, "answers");
 _Static_assert(FOLGUTAN_BAD_PITCH == 10 && FOLGUTAN_BAD_NUMBER == 11, "answers");
 _Static_assert(FOLGUTAN_OUTSIDE == 12 && FOLGUTAN_BAD_FACTOR == 13, "answers");
+_Static_assert(FOLGUTAN_NOT_ON_BOARD == 14, "answers");
 _Static_assert(FOLGUTAN_LEAST_PLANE_SIDE == 4, "limits");
 _Static_assert(FOLGUTAN_MOST_SIZE == 24 && FOLGUTAN_MOST_CELL_VALUES == 1728, "limits");
 _Static_assert(FOLGUTAN_LEAST_FACTOR == 2 && FOLGUTAN_MOST_FACTOR == 5, "limits");
@@ -130,7 +133,7 @@ static const struct {
     {GRADIENT, test_gradient, "0 1 3 4"},
     {LOCATE, test_locate, "0 1 3 4 5 6 7 8 9 13"},
     {READ_LINE, test_read_line, "0 1 3 6 7 11"},
-    {SAMPLE, test_sample, "0 1 3 4 10 11 12"},
+    {SAMPLE, test_sample, "0 1 3 4 10 11 12 14"},
 };
 
 /* The answers that a call gave, in the form of the lists above. */

@@ -1,4 +1,4 @@
-/* Locating (01, Locating; 02, R-1, R-3 and R-4). */
+/* Locating (01, Locating; 02, R-1 and ). */
 #include "folgutan.h"
 
 #include "calls.h"
@@ -26,9 +26,9 @@ static call fitting(size_t factor, size_t height, size_t width)
     size_t area = height * width, sides = height + width;
     call c = {
         /* all fields but the sides are anything */
-        .board = {.height = height, .width = width, .r_1 = SIZE_MAX, .c_1 = 5, .r0 = 77,
-                  .c0 = SIZE_MAX, .r = 9, .c = 8, .pixelr = float_of(0x7FA00001),
-                  .pixelc = -1.0f},
+        .board = {.height = height, .width = width, .r_1 = SIZE_MAX, .c_1 = 5, .r_2 = 3,
+                  .c_2 = SIZE_MAX - 1, .r0 = 77, .c0 = SIZE_MAX, .r = 9, .c = 8,
+                  .pixelr = float_of(0x7FA00001), .pixelc = -1.0f},
         .factor = factor,
         .planes = 3 * area, .edges = area, .scores = sides,
         .scratch_f32 = area, .scratch_u8 = area, .scratch_u32 = 4 * sides, .bad = NOWHERE,
@@ -744,20 +744,26 @@ static int barred(screen s, size_t x)
     return 2 * covered > s.times;
 }
 
-/* Each cell is sampled in the middle, by the record and the planes as locating hands them back. */
+/* Each cell is sampled in the middle, by the record and the planes as locating hands them back, and no cell
+ * beside the board. */
 static void cells_sampled(const char *where, screen s, folgutan_board b, const float *planes)
 {
-    size_t right = 0;
-    for (size_t x = 0; x < b.r; x++)
-        for (size_t y = 0; y < b.c; y++) {
+    size_t right = 0, beside = 0;
+    for (size_t x = 0; x <= b.r; x++)
+        for (size_t y = 0; y <= b.c; y++) {
             float cell[3];
             uint32_t face = bits_of((float)(barred(s, x) ? BAR_LEVEL : FACE) / 255.0f);
             uint32_t answer =
                 folgutan_sample(b, planes, 3 * b.height * b.width, x, y, 1, cell, 3);
+            if (x == b.r || y == b.c) {
+                beside += answer == FOLGUTAN_NOT_ON_BOARD;
+                continue;
+            }
             right += answer == FOLGUTAN_DONE && bits_of(cell[0]) == face
                      && bits_of(cell[1]) == face && bits_of(cell[2]) == face;
         }
     check(right == b.r * b.c, where, "sampled cells");
+    check(beside == b.r + b.c + 1, where, "cells beside the board");
 }
 
 /* A board that is read. */
@@ -776,6 +782,9 @@ static void read_board(const char *name, screen s, size_t factor, bounds widened
     check(have.answer == FOLGUTAN_DONE, where, "answer");
     check(b.height == height / s.times && b.width == width / s.times, where, "sides");
     check(b.r_1 == widened.r_1 && b.c_1 == widened.c_1, where, "corner");
+    check(b.r_2 == widened.r_2 && b.c_2 == widened.c_2, where, "far corner");
+    check(b.r_1 + 4 <= b.r_2 && b.r_2 + 3 <= b.height && b.c_1 + 4 <= b.c_2 && b.c_2 + 3 <= b.width,
+          where, "both corners in the edge picture");
     check(b.r == cells(d.height, d.top, d.down) && b.c == cells(d.width, d.left, d.across), where,
           "rows and columns");
     check(bits_of(b.pixelr) == bits_of((float)have.quarterr / 4.0f), where, "pitch down");
@@ -843,6 +852,9 @@ static void framed_board(struct framed f, size_t factor)
 void test_locate(void)
 {
     refusals();
+    /* from the first row and column of the edge picture to the last: the largest far corner there is */
+    read_board("locate of a board, narrowed, over all of the picture",
+               (screen){{70, 70, 2, 1, 13, 11, 1}, 3}, 3, (bounds){0, 67, 0, 67});
     for (size_t at = 0; at < COUNT(halves); at++)
         halved(halves[at]);
     for (size_t at = 0; at < COUNT(blanks); at++)

@@ -1,4 +1,4 @@
-/* Sampling (01, Cell sampling; 02, R-2). */
+/* Sampling (01, Cell sampling; 02, R-2 and R-5). */
 #include "folgutan.h"
 
 #include "calls.h"
@@ -77,22 +77,24 @@ static void sample_case(const char *name, call c, uint32_t answer)
     free(out.whole);
 }
 
-/* A call that is done: cell (1, 2) of a board with pitch 10.0 and 9.25 on a screen of 64 by 60. */
+/* A call that is done: cell (1, 2) of a board of 4 by 3 cells with pitch 10.0 and 9.25 on a screen of 64 by
+ * 60. The far corner is anything. */
 static call fitting(void)
 {
     call c = {
-        .board = {.height = 64, .width = 60, .r_1 = 5, .c_1 = 7, .r0 = 3, .c0 = 2,
-                  .r = 4, .c = 3, .pixelr = 10.0f, .pixelc = 9.25f},
+        .board = {.height = 64, .width = 60, .r_1 = 5, .c_1 = 7, .r_2 = SIZE_MAX, .c_2 = 1,
+                  .r0 = 3, .c0 = 2, .r = 4, .c = 3, .pixelr = 10.0f, .pixelc = 9.25f},
         .planes_len = 3 * 64 * 60, .x = 1, .y = 2, .size = 5, .out_len = 3 * 25,
         .bad = NOWHERE,
     };
     return c;
 }
 
-/* 01, Ruler cases: corner 0, offset 3, pitch 10.0, x = 0, size 2: rows 5 and 10. */
+/* 01, Ruler cases: corner 0, offset 3, pitch 10.0, x = 0, size 2: rows 5 and 10; r and c are 1, and x = 1 or
+ * y = 1 is not on the board (02, R-5). */
 static void worked_case(void)
 {
-    folgutan_board board = {.height = 12, .width = 12, .r0 = 3, .c0 = 3,
+    folgutan_board board = {.height = 12, .width = 12, .r0 = 3, .c0 = 3, .r = 1, .c = 1,
                             .pixelr = 10.0f, .pixelc = 10.0f};
     static float planes[3 * 144], out[12];
     for (size_t at = 0; at < COUNT(planes); at++)
@@ -107,6 +109,114 @@ static void worked_case(void)
                 values &= bits_of(out[4 * k + 2 * i + j])
                           == bits_of(planes[144 * k + 12 * at[i] + at[j]]);
     check(values, "sample, worked case", "values");
+    for (size_t at = 1; at < 4; at++) {
+        answer = folgutan_sample(board, planes, COUNT(planes), at & 1, at >> 1, 2, out, COUNT(out));
+        check(answer == FOLGUTAN_NOT_ON_BOARD, "sample, worked case", "a cell beside the board");
+    }
+}
+
+/* The count along one axis, and the number of the cell. */
+static size_t *count_of(call *c, size_t axis)
+{
+    return axis == 0 ? &c->board.r : &c->board.c;
+}
+
+static size_t *cell_of(call *c, size_t axis)
+{
+    return axis == 0 ? &c->x : &c->y;
+}
+
+/* The last cell on the board and the first that is not, by each axis, and by both; what is looked at before
+ * and after. */
+static void sample_on_board(void)
+{
+    for (size_t axis = 0; axis < 2; axis++) {
+        call c = fitting();
+        *count_of(&c, axis) = *cell_of(&c, axis) + 1;
+        sample_case("last cell", c, FOLGUTAN_DONE);
+        *count_of(&c, axis) = SIZE_MAX;
+        sample_case("many cells", c, FOLGUTAN_DONE);
+        static const size_t beyond[] = {0, 1, 2, 100, 4096};
+        for (size_t at = 0; at < COUNT(beyond); at++) {
+            c = fitting();
+            *cell_of(&c, axis) = beyond[at];
+            for (size_t count = beyond[at];; count /= 2) {
+                *count_of(&c, axis) = count;
+                c.size = 5;
+                c.out_len = 75;
+                sample_case("not on the board", c, FOLGUTAN_NOT_ON_BOARD);
+                c.out_len = 74;
+                sample_case("not on the board, output short", c, FOLGUTAN_NOT_ON_BOARD);
+                c.size = 24;
+                c.out_len = 0;
+                sample_case("not on the board, no output", c, FOLGUTAN_NOT_ON_BOARD);
+                c.size = 0;
+                sample_case("not on the board, size 0", c, FOLGUTAN_NOT_ON_BOARD);
+                c.size = 25;
+                sample_case("not on the board, size above 24", c, FOLGUTAN_BAD_NUMBER);
+                if (count == 0)
+                    break;
+            }
+        }
+        /* on the board and above the limit, and neither */
+        c = fitting();
+        *cell_of(&c, axis) = 4097;
+        *count_of(&c, axis) = SIZE_MAX;
+        sample_case("on the board, above 4096", c, FOLGUTAN_BAD_NUMBER);
+        *count_of(&c, axis) = 0;
+        sample_case("not on the board, above 4096", c, FOLGUTAN_BAD_NUMBER);
+        /* earlier faults */
+        c = fitting();
+        *count_of(&c, axis) = 0;
+        c.board.c0 = 4097;
+        sample_case("not on the board, offset", c, FOLGUTAN_BAD_NUMBER);
+        c.board.pixelr = 7.75f;
+        sample_case("not on the board, pitch", c, FOLGUTAN_BAD_PITCH);
+        c.bad = 0;
+        c.bits = 0x3F800001;
+        sample_case("not on the board, value", c, FOLGUTAN_BAD_VALUE);
+        c.planes_len--;
+        sample_case("not on the board, planes short", c, FOLGUTAN_SHORT_SLICE);
+        c.board.height = 3;
+        sample_case("not on the board, side", c, FOLGUTAN_BAD_SIDE);
+    }
+    /* the counts are not exchanged: a board of 3 by 2 cells */
+    for (size_t x = 0; x < 4; x++)
+        for (size_t y = 0; y < 4; y++) {
+            call c = fitting();
+            c.board.r = 3;
+            c.board.c = 2;
+            c.x = x;
+            c.y = y;
+            sample_case("a cell of 3 by 2", c, x < 3 && y < 2 ? FOLGUTAN_DONE : FOLGUTAN_NOT_ON_BOARD);
+        }
+    /* 20 by 20, pitches 8.0, one cell */
+    call c = fitting();
+    c.board = (folgutan_board){.height = 20, .width = 20, .r = 1, .c = 1,
+                               .pixelr = 8.0f, .pixelc = 8.0f};
+    c.planes_len = 3 * 20 * 20;
+    c.x = 1;
+    c.y = 0;
+    c.size = 25;
+    sample_case("one cell, size 25", c, FOLGUTAN_BAD_NUMBER);
+    c.size = 24;
+    c.out_len = 0;
+    sample_case("one cell, no output", c, FOLGUTAN_NOT_ON_BOARD);
+    c.x = 4097;
+    sample_case("one cell, x 4097", c, FOLGUTAN_BAD_NUMBER);
+    c.x = 0;
+    c.size = 2;
+    c.out_len = 11;
+    sample_case("one cell, 11 outputs", c, FOLGUTAN_SHORT_SLICE);
+    c.out_len = 12;
+    sample_case("one cell", c, FOLGUTAN_DONE);
+    /* the far corner is not looked at */
+    static const size_t far[] = {0, 1, 12, 4097, SIZE_MAX};
+    for (size_t at = 0; at < COUNT(far) * COUNT(far); at++) {
+        c.board.r_2 = far[at % COUNT(far)];
+        c.board.c_2 = far[at / COUNT(far)];
+        sample_case("any far corner", c, FOLGUTAN_DONE);
+    }
 }
 
 static void sample_sizes(void)
@@ -199,7 +309,7 @@ static void sample_sides(void)
     for (size_t at = 0; at < COUNT(fit); at++) {
         call c = fitting();
         c.board = (folgutan_board){.height = fit[at][0], .width = fit[at][1],
-                                   .pixelr = 8.0f, .pixelc = 8.0f};
+                                   .r = 1, .c = 1, .pixelr = 8.0f, .pixelc = 8.0f};
         c.planes_len = 3 * c.board.height * c.board.width;
         c.x = c.y = 0;
         c.size = 1; /* row and column 4 */
@@ -316,6 +426,7 @@ static void sample_numbers(void)
         for (size_t at = 0; at <= COUNT(above); at++) {
             size_t value = at == 0 ? 4096 : above[at - 1];
             call c = fitting();
+            c.board.r = c.board.c = 4097;
             size_t *fields[] = {&c.x, &c.y, &c.board.r_1, &c.board.c_1, &c.board.r0, &c.board.c0};
             *fields[field] = value;
             sample_case("number", c, at == 0 ? FOLGUTAN_OUTSIDE : FOLGUTAN_BAD_NUMBER);
@@ -325,11 +436,6 @@ static void sample_numbers(void)
             c.size = 0;
             sample_case("number, size 0", c, at == 0 ? FOLGUTAN_DONE : FOLGUTAN_BAD_NUMBER);
         }
-    /* r and c are not looked at */
-    call c = fitting();
-    c.board.r = SIZE_MAX;
-    c.board.c = 0;
-    sample_case("rows and columns", c, FOLGUTAN_DONE);
 }
 
 /* The last point that is inside, and the first outside, in both directions. */
@@ -337,7 +443,8 @@ static void sample_outside(void)
 {
     for (size_t turn = 0; turn < 2; turn++) {
         call c = fitting();
-        c.board = (folgutan_board){.height = 21, .width = 21, .pixelr = 10.0f, .pixelc = 10.0f};
+        c.board = (folgutan_board){.height = 21, .width = 21, .r = 2, .c = 2,
+                                   .pixelr = 10.0f, .pixelc = 10.0f};
         c.planes_len = 3 * 21 * 21;
         c.x = c.y = 0;
         c.size = 1; /* 5, 15 and 25 */
@@ -362,6 +469,7 @@ static void sample_outside(void)
 void test_sample(void)
 {
     worked_case();
+    sample_on_board();
     sample_sizes();
     sample_sizes_above();
     sample_every_pixel();

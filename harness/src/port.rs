@@ -11,6 +11,8 @@ pub struct Board {
     pub width: usize,
     pub r_1: usize,
     pub c_1: usize,
+    pub r_2: usize,
+    pub c_2: usize,
     pub r0: usize,
     pub c0: usize,
     pub r: usize,
@@ -21,9 +23,9 @@ pub struct Board {
 
 impl Board {
     pub fn of(record: &Record) -> Board {
-        let Record { height, width, r_1, c_1, r0, c0, r, c, pixelr, pixelc } = *record;
+        let Record { height, width, r_1, c_1, r_2, c_2, r0, c0, r, c, pixelr, pixelc } = *record;
         let (pixelr, pixelc) = (f32::from_bits(pixelr), f32::from_bits(pixelc));
-        Board { height, width, r_1, c_1, r0, c0, r, c, pixelr, pixelc }
+        Board { height, width, r_1, c_1, r_2, c_2, r0, c0, r, c, pixelr, pixelc }
     }
 
     pub fn record(&self) -> Record {
@@ -32,6 +34,8 @@ impl Board {
             width: self.width,
             r_1: self.r_1,
             c_1: self.c_1,
+            r_2: self.r_2,
+            c_2: self.c_2,
             r0: self.r0,
             c0: self.c0,
             r: self.r,

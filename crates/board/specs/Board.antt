@@ -1,5 +1,5 @@
--- The board record and its limits: 01, "Load" and "How each operation declines", and 02, R-1 and R-2.
-use Prim.Native.Nat.{ℕ, max, _*_}
+-- The board record and its limits: 01, "Load" and "How each operation declines", and 02, R-1, R-2 and R-5.
+use Prim.Native.Nat.{ℕ, max, _+_, _*_, _≤_}
 use mathlib.Core.Path.{_≡_}
 use mathlib.Core.Bool.{Bool, not, _&&_, _||_}
 use lib.Dec.{leb, ltb}
@@ -55,6 +55,8 @@ fresh h w =
       width = w;
       «r_1» = 0;
       «c_1» = 0;
+      «r_2» = 0;
+      «c_2» = 0;
       r0 = 0;
       c0 = 0;
       r = 0;
@@ -75,6 +77,8 @@ resized b h w =
       width = w;
       «r_1» = b .«r_1»;
       «c_1» = b .«c_1»;
+      «r_2» = b .«r_2»;
+      «c_2» = b .«c_2»;
       r0 = b .r0;
       c0 = b .c0;
       r = b .r;
@@ -83,7 +87,7 @@ resized b h w =
       pixelc = b .pixelc;
     }
 
--- the record with what was read: the corner of the bounds, and the cells of both axes
+-- the record with what was read: both corners of the bounds, and the cells of both axes
 abbrev pub withReading : Board → Bounds → Spacing → Spacing → Board
 withReading b bounds rows columns =
     record {
@@ -91,6 +95,8 @@ withReading b bounds rows columns =
       width = b .width;
       «r_1» = bounds .«r_1»;
       «c_1» = bounds .«c_1»;
+      «r_2» = bounds .«r_2»;
+      «c_2» = bounds .«c_2»;
       r0 = rows .offset;
       c0 = columns .offset;
       r = rows .count;
@@ -98,6 +104,13 @@ withReading b bounds rows columns =
       pixelr = rows .pitch;
       pixelc = columns .pitch;
     }
+
+-- 02, R-5: r_1 + span ≤ r_2 ≤ height − rim, and the same of the columns. With 1 and 1 this is r_1 < r_2 < height and c_1 < c_2 < width.
+pub record CornersIn (span rim : ℕ) (b : Board) : Type 0 where
+  pub rows : b .«r_1» + span ≤ b .«r_2»
+  pub row-end : b .«r_2» + rim ≤ b .height
+  pub columns : b .«c_1» + span ≤ b .«c_2»
+  pub column-end : b .«c_2» + rim ≤ b .width
 
 -- below the least or above the most
 unfoldable pub outside : ℕ → ℕ → ℕ → Bool

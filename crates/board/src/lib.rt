@@ -13,14 +13,16 @@ ghost use Rattle.board.specs.Inner.{FactorIn};
 ghost use Rattle.board.specs.Planes.{allUnits, planesAnswer};
 ghost use Rattle.board.specs.Screen.{channelOf};
 
-// The board: its sides, its corner, the offsets from there at which the grid of cells begins, its counts of rows and columns, and its
-// pitches.
+// The board: its sides, its corner and its far corner, the offsets from the corner at which the grid of cells begins, its counts of rows
+// and columns, and its pitches.
 #[repr(C)]
 pub struct Board {
     pub height: usize,
     pub width: usize,
     pub r_1: usize,
     pub c_1: usize,
+    pub r_2: usize,
+    pub c_2: usize,
     pub r0: usize,
     pub c0: usize,
     pub r: usize,
@@ -61,7 +63,7 @@ impl Board {
 
     pub const MOST_FACTOR: usize = 5;
 
-    // A record of these sides with zeros in the other eight fields. That the limits above are the definitions' is
+    // A record of these sides with zeros in the other ten fields. That the limits above are the definitions' is
     // stated here: a constant has no contract of its own.
     pub fn fresh(height: usize, width: usize) -> Self
         ensures { λ r. ⌜ r ≡ Spec.fresh height width ⌝ }
@@ -75,6 +77,8 @@ impl Board {
             width: width,
             r_1: 0,
             c_1: 0,
+            r_2: 0,
+            c_2: 0,
             r0: 0,
             c0: 0,
             r: 0,
@@ -94,7 +98,7 @@ impl Board {
         out
     }
 
-    // The record with what was read: the corner, and the cells of both axes. The sides stay.
+    // The record with what was read: both corners, and the cells of both axes. The sides stay.
     pub fn with_reading(self, bounds: Bounds, rows: Spacing, columns: Spacing) -> Self
         ensures { λ r. ⌜ r ≡ Spec.withReading self bounds rows columns ⌝ }
     {
@@ -103,6 +107,8 @@ impl Board {
             width: self.width,
             r_1: bounds.r_1,
             c_1: bounds.c_1,
+            r_2: bounds.r_2,
+            c_2: bounds.c_2,
             r0: rows.offset,
             c0: columns.offset,
             r: rows.count,

@@ -1,4 +1,4 @@
--- The fourteen worked cases of 01, and those of a request of 02, by the definitions that the contracts cite. They hold together:
+-- The fourteen worked cases of 01, and those of requests of 02, by the definitions that the contracts cite. They hold together:
 -- proofs/Worked.
 use Prim.Native.Nat.{ℕ, _*_}
 use mathlib.Core.Path.{_≡_}
@@ -9,7 +9,10 @@ use lib.Ieee.{Float, binary32, ofBits}
 use lib.ListN.{length, replicate}
 use Rattle.lists.specs.Tab.{tabFrom, tab}
 use Rattle.lists.specs.Picture.{flip}
+use Rattle.board.specs.declared.Board.{Board}
 use Rattle.board.specs.declared.Bounds.{Bounds}
+use Rattle.board.specs.declared.Spacing.{Spacing}
+use Rattle.board.specs.Board.{fresh, withReading}
 use Rattle.bounds.specs.Bounds.{boundsOf}
 use Rattle.lanes.specs.Score.{Place, at, score}
 use Rattle.strips.specs.Strip.{places, columnScores, rowScores}
@@ -17,7 +20,7 @@ use Rattle.lines.specs.Lines.{linesOf}
 use Rattle.reading.specs.declared.Reading.{Reading}
 use Rattle.reading.specs.declared.Reading.the-variants.{Read, Refused}
 use Rattle.reading.specs.Reading.{readingOf}
-use Rattle.sample.specs.Sample.{sampledAt}
+use Rattle.sample.specs.Sample.{rowAt, onBoard, cellAnswer}
 
 -- an edge picture: whether the point in a row and a column is set
 abbrev pub Picture : Type 0
@@ -40,8 +43,10 @@ pub data Case : Type 0 where
   read : List ℕ → Reading → Case
   -- the lines of a list, and what it reads as
   lined : List ℕ → List ℕ → Reading → Case
-  -- the sampled rows of corner, offset, pitch, x and size
-  sampled : ℕ → ℕ → Float → ℕ → ℕ → List ℕ → Case
+  -- the sampled rows of a record, a cell on its board and a size
+  sampled : Board → ℕ → ℕ → ℕ → List ℕ → Case
+  -- the answer to a record, a cell, a size and so many entries of output, where the planes are fit
+  answered : Board → ℕ → ℕ → ℕ → ℕ → ℕ → Case
 
 -- the scores over so many steps down a strip, for the target lanes 0 to 4
 abbrev pub laneScores : Picture → ℕ → List ℕ
@@ -64,7 +69,8 @@ Holds (placed c₁ c₂ l) = places c₁ c₂ ≡ l
 Holds (listed E b l) = (columnScores E b ≡ l) × (rowScores (flip E) (exchanged b) ≡ l)
 Holds (read l r) = readingOf l (4 * length l) ≡ r
 Holds (lined l lines r) = (linesOf l ≡ lines) × (readingOf l (4 * length l) ≡ r)
-Holds (sampled corner offset pitch x size rows) = tab size (sampledAt corner offset pitch x size) ≡ rows
+Holds (sampled b x y size rows) = (onBoard b x y ≡ true) × (tab size (rowAt b x size) ≡ rows)
+Holds (answered b x y size room answer) = cellAnswer b x y size room ≡ answer
 
 abbrev pub All : List Case → Type 0
 All [] = Unit
@@ -88,7 +94,16 @@ member i (p ∷ ps) = eqb i p || member i ps
 abbrev pub tens : ℕ → List ℕ → List ℕ
 tens n ps = tab n (λ i. cond (member i ps) 10 0)
 
--- 10.0, 9.0 and 200.0 by their bits
+-- the record of one cell in a square picture: along both axes the corner, the offset and the pitch are the same
+abbrev pub oneCell : ℕ → ℕ → ℕ → Float → Board
+oneCell side corner offset pitch =
+    let axis : Spacing = record { offset = offset; count = 1; pitch = pitch } in
+    withReading (fresh side side) (bounds corner corner corner corner) axis axis
+
+-- 8.0, 10.0, 9.0 and 200.0 by their bits
+abbrev pub eight : Float
+eight = ofBits binary32 0x41000000
+
 abbrev pub ten : Float
 ten = ofBits binary32 0x41200000
 
@@ -118,17 +133,28 @@ cases =
     -- lists of 300, tens at 3, 208: 200.0, 3, 1, 1; 3, 209: refusal 7
     ∷ read (tens 300 (3 ∷ 208 ∷ [])) (Read twoHundred 3 1 1)
     ∷ read (tens 300 (3 ∷ 209 ∷ [])) (Refused 7)
-    -- sampling with corner 0, offset 3, pitch 10.0, x = 0, size 2: rows 5 and 10
-    ∷ sampled 0 3 ten 0 2 (5 ∷ 10 ∷ [])
+    -- sampling with corner 0, offset 3, pitch 10.0, x = 0, size 2: rows 5 and 10; r and c are 1 (02, R-5)
+    ∷ sampled (oneCell 12 0 3 ten) 0 0 2 (5 ∷ 10 ∷ [])
     ∷ []
 
--- 02, R-4: a score for the last place but one
 abbrev pub requested : List Case
 requested =
+    -- R-4, a score for the last place but one
     -- places of c_1 = 3, c_2 = 9: (3, 0), (3, 1), (3, 2), (4, 2), (5, 2), (5, 3), (5, 4)
     placed 3 9 (at 3 0 ∷ at 3 1 ∷ at 3 2 ∷ at 4 2 ∷ at 5 2 ∷ at 5 3 ∷ at 5 4 ∷ [])
     -- rows 0 to 3, columns 0 to 6, only column 4 set: 0 0 0 1 3 1 0
     ∷ listed (only 4) (bounds 0 3 0 6) (0 ∷ 0 ∷ 0 ∷ 1 ∷ 3 ∷ 1 ∷ 0 ∷ [])
     -- rows 0 to 3, columns 0 to 4, only column 2 set: 0 1 3 1 0
     ∷ listed (only 2) (bounds 0 3 0 4) (0 ∷ 1 ∷ 3 ∷ 1 ∷ 0 ∷ [])
+    -- R-5, only cells on the board: in the sampling case of 01 the cell is sampled, and x = 1 or y = 1 answers 14
+    ∷ answered (oneCell 12 0 3 ten) 0 0 2 12 0
+    ∷ answered (oneCell 12 0 3 ten) 1 0 2 12 14
+    ∷ answered (oneCell 12 0 3 ten) 0 1 2 12 14
+    -- 20 by 20, pitches 8.0: (1, 0) with size 25, 11; with size 24 and no output, 14; (4097, 0), 11; (0, 0) with size 2 and 11 outputs, 3
+    ∷ answered (oneCell 20 0 0 eight) 1 0 25 0 11
+    ∷ answered (oneCell 20 0 0 eight) 1 0 24 0 14
+    ∷ answered (oneCell 20 0 0 eight) 4097 0 2 12 11
+    ∷ answered (oneCell 20 0 0 eight) 0 0 2 11 3
+    -- at size 0 too
+    ∷ answered (oneCell 20 0 0 eight) 1 1 0 0 14
     ∷ []

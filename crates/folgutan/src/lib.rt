@@ -5,6 +5,7 @@ ghost use Rattle.gradient.specs.Gradient.{GradientGives};
 ghost use Rattle.reading.specs.Reading.{LineGives};
 ghost use Rattle.locate.specs.Locate.{lent, LocateGives};
 ghost use Rattle.locate.specs.Promise.{Promise};
+ghost use Rattle.locate.specs.Corners.{CornersHold};
 ghost use Rattle.sample.specs.Sample.{SampleGives};
 use board::Board;
 use load::Loaded;
@@ -52,7 +53,7 @@ pub extern "C" fn folgutan_locate(
         (now («scratch_f32» .entry)) (now («scratch_u8» .entry)) (now («scratch_u32» .entry)) in
         let after = lent (now (planes .exit)) (now (edges .exit)) (now (scores .exit))
         (now («scratch_f32» .exit)) (now («scratch_u8» .exit)) (now («scratch_u32» .exit)) in
-        ⌜ LocateGives b factor before r after × Promise b factor before r after ⌝ }
+        ⌜ LocateGives b factor before r after × Promise b factor before r after × CornersHold b r ⌝ }
 {
     locate::get_pos_pixel(
         b,

@@ -1,4 +1,5 @@
 pub mod Checks
+pub mod Cornered
 pub mod Leading
 pub mod Lists
 pub mod Promises

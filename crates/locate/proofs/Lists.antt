@@ -12,7 +12,7 @@ use Rattle.reading.proofs.Answers.{fit-answer}
 use Rattle.locate.specs.Reference.{Reference, Axis, columnAxis, rowAxis}
 use Rattle.locate.specs.Locate.{Lent, checked, referenceFor, ListsFit}
 use Rattle.locate.proofs.Checks.{fit}
-use Rattle.locate.proofs.Scored.{Scored, scored, sides-in, last-is}
+use Rattle.locate.proofs.Scored.{Scored, scored-where, sides-in, last-is}
 use Rattle.locate.proofs.Promises.{columns-fit, rows-fit}
 
 few : (a : Axis) {n side : ℕ} → a .scores ≡ scores (a .picture) (a .from) (a .to) (a .low) (a .high) → a .low + 4 ≤ a .high
@@ -27,7 +27,7 @@ lists-fit b f before passed large =
     let g : Reference = referenceFor b f before in
     let p = fit b f before passed in
     let ends = rw (last-is f (b .height) (b .width) (before .planes)) at large in
-    let s : Scored g = scored f (b .height) (b .width) (before .planes) (p .0) (p .1) ends in
+    let s : Scored g = scored-where b f before passed large in
     let sides = sides-in f (b .height) (b .width) (before .planes) (p .0) (p .1) ends in
     let columns : length (g .columns) + 2 ≤ b .width = few (columnAxis g) (s .columns-are) (s .wide .columns) (s .wide .column-end) (sides .1) in
     let rows : length (g .rows) + 2 ≤ b .height = few (rowAxis g) (s .rows-are) (s .wide .rows) (s .wide .row-end) (sides .0) in

@@ -24,8 +24,7 @@ use Rattle.locate.specs.declared.Located.{Located}
 use Rattle.locate.specs.Reference.{Reference, columnAxis, rowAxis}
 use Rattle.locate.specs.Locate.{Lent, checked, passes, declined, joined, found, scoresOf, referenceFor, LocateGives}
 use Rattle.locate.specs.Promise.{Optimal, BoardFound, Promise}
-use Rattle.locate.proofs.Checks.{fit}
-use Rattle.locate.proofs.Scored.{Scored, scored, last-is}
+use Rattle.locate.proofs.Scored.{Scored, scored-where}
 use Rattle.locate.proofs.Unbeaten.{scores-long, unbeaten}
 
 module _ (g : Reference) (s : Scored g) where
@@ -74,6 +73,8 @@ module _ (g : Reference) (s : Scored g) where
           room = room;
           top-is = refl;
           left-is = refl;
+          bottom-is = refl;
+          right-is = refl;
           rows-are = rw down;
           columns-are = rw across;
           columns-unbeaten = unbeaten (columnAxis g) (s .columns-are) (e .rows) (e .columns) _ q offset count voted columns-fit
@@ -159,9 +160,7 @@ promised b f before r after g = go (passes b f before) refl (g .located-is) (g .
         → AtFront (cond t (scoresOf ref) []) (before .scores) (after .scores) → Promise b f before r after
     go true e is x =
         let z = eqb-true (checked b f before) 0 e in
-        let p = fit b f before z in
-        let s : ref .last .tooSmall ≡ false → Scored ref =
-        λ q. scored f (b .height) (b .width) (before .planes) (p .0) (p .1) (rw (last-is f (b .height) (b .width) (before .planes)) at q) in
+        let s : ref .last .tooSmall ≡ false → Scored ref = scored-where b f before z in
         record {
           answered = (λ a. (z, found-answer b ref s .0 (rw is at a)), λ y a. rw is (found-answer b ref s .1 a));
           optimal = λ a. rw is (found-optimal b ref s (before .scores) (after .scores) x (rw is at a));

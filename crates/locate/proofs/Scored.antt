@@ -7,6 +7,7 @@ use mathlib.Core.List.{List}
 use native.Mathlib.Omega.{arith}
 use lib.Ieee.{Float}
 use lib.ListN.{length}
+use Rattle.board.specs.declared.Board.{Board}
 use Rattle.board.specs.Board.{leastLocated}
 use Rattle.board.specs.Inner.{FactorIn, FitPlanes}
 use Rattle.edges.proofs.Laws.{length-edges}
@@ -15,8 +16,12 @@ use Rattle.narrowings.specs.Loop.{Stage, boundsAt, thin, lastOf}
 use Rattle.narrowings.proofs.Turns.{Sound, spans, sound-around, last-sound}
 use Rattle.strips.specs.Strip.{columnScores, rowScores}
 use Rattle.locate.specs.Reference.{Reference, referenceOf}
+use Rattle.locate.specs.Locate.{Lent, checked, referenceFor}
+use Rattle.locate.proofs.Checks.{fit}
 
 pub record Scored (g : Reference) : Type 0 where
+  pub row-is : g .row ≡ g .last .stage .height - 2
+  pub column-is : g .column ≡ g .last .stage .width - 2
   pub wide : Wide (g .row) (g .column) (g .bounds)
   pub rows-end : g .row ≤ 4094
   pub columns-end : g .column ≤ 4094
@@ -60,6 +65,8 @@ module _ (f h w : ℕ) (planes : List Float) where
     unfolding referenceOf
     scored =
         record {
+          row-is = refl;
+          column-is = refl;
           wide = wide-enough;
           rows-end = omega (arith, sound .fit .sides .high-h);
           columns-end = omega (arith, sound .fit .sides .high-w);
@@ -67,3 +74,10 @@ module _ (f h w : ℕ) (planes : List Float) where
           columns-are = refl;
           rows-are = refl;
         }
+
+-- the same of a call that passed its checks
+pub scored-where : (b : Board) (f : ℕ) (before : Lent) → checked b f before ≡ 0 → referenceFor b f before .last .tooSmall ≡ false
+    → Scored (referenceFor b f before)
+scored-where b f before passed large =
+    let p = fit b f before passed in
+    scored f (b .height) (b .width) (before .planes) (p .0) (p .1) (rw (last-is f (b .height) (b .width) (before .planes)) at large)

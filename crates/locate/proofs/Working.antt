@@ -23,8 +23,10 @@ use Rattle.locate.specs.declared.Located.{Located}
 use Rattle.locate.specs.Reference.{referenceOf}
 use Rattle.locate.specs.Locate.{Lent, lent, checked, passes, declined, referenceFor, LocateGives}
 use Rattle.locate.specs.Promise.{Promise}
+use Rattle.locate.specs.Corners.{CornersHold}
 use Rattle.locate.specs.Inner.{NoneShort, Leads, ReadsFrom, Works}
 use Rattle.locate.proofs.Promises.{promised}
+use Rattle.locate.proofs.Cornered.{cornered}
 use Rattle.locate.proofs.Scored.{sound, not-thin}
 
 module _ (b : Board) (f : ℕ) (before : Lent) (i : FactorIn f) (p : FitPlanes (leastLocated f) (b .height) (b .width) (before .planes))
@@ -123,7 +125,7 @@ pub record ScratchKept (h w : ℕ) (before after : Lent) : Type 0 where
 
 module _ (b : Board) (f : ℕ) (before : Lent) {r : Located} where
   pub refuses : (answer : ℕ) → answer ≡ checked b f before → (answer ≡ 0 → ⊥) → r ≡ declined b answer 0
-      → LocateGives b f before r before × Promise b f before r before
+      → LocateGives b f before r before × Promise b f before r before × CornersHold b r
   refuses answer e n d =
       let no : passes b f before ≡ false = rw e at (ne-eqb answer 0 n) in
       let g : LocateGives b f before r before =
@@ -136,13 +138,14 @@ module _ (b : Board) (f : ℕ) (before : Lent) {r : Located} where
         u8-kept = refl;
         u32-kept = refl;
       } in
-      (g, promised b f before r before g)
+      (g, promised b f before r before g, cornered b f before r before g)
 
   -- the work was done on scratch of 01's lengths
   pub accepts : (after mid-before mid-after : Lent) → checked b f before ≡ 0 → Works b f mid-before r mid-after
       → mid-before .planes ≡ before .planes → mid-before .edges ≡ before .edges → mid-before .scores ≡ before .scores
       → mid-after .planes ≡ after .planes → mid-after .edges ≡ after .edges → mid-after .scores ≡ after .scores
-      → ScratchKept (b .height) (b .width) before after → LocateGives b f before r after × Promise b f before r after
+      → ScratchKept (b .height) (b .width) before after
+      → LocateGives b f before r after × Promise b f before r after × CornersHold b r
   accepts after mid-before mid-after e k p q s p' q' s' t =
       let yes : passes b f before ≡ true = eq-eqb (checked b f before) 0 e in
       let g : LocateGives b f before r after =
@@ -155,4 +158,4 @@ module _ (b : Board) (f : ℕ) (before : Lent) {r : Located} where
         u8-kept = rw yes (t .u8-kept);
         u32-kept = rw yes (t .u32-kept);
       } in
-      (g, promised b f before r after g)
+      (g, promised b f before r after g, cornered b f before r after g)

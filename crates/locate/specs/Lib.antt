@@ -1,4 +1,5 @@
 pub mod Reference
 pub mod Locate
 pub mod Promise
+pub mod Corners
 pub mod Inner

@@ -76,7 +76,7 @@ abbrev pub countIn : Quarters → ℕ
 countIn (Read q offset count votes) = count
 countIn (Refused n) = 0
 
--- where the answer is 0: the corner and the counts are the rules', and columns and rows are unbeaten. The widened bounds lie in the edge
+-- where the answer is 0: both corners and the counts are the rules', and columns and rows are unbeaten. The widened bounds lie in the edge
 -- picture, which has a byte for each of its points, and the score slice has room for both lists: so no walk, no score and no line is taken
 -- from past a list's end.
 pub record Optimal (g : Reference) (r : Located) (scores : List ℕ) : Type 0 where
@@ -85,6 +85,8 @@ pub record Optimal (g : Reference) (r : Located) (scores : List ℕ) : Type 0 wh
   pub room : length (g .columns) + length (g .rows) ≤ length scores
   pub top-is : r .board .«r_1» ≡ g .bounds .«r_1»
   pub left-is : r .board .«c_1» ≡ g .bounds .«c_1»
+  pub bottom-is : r .board .«r_2» ≡ g .bounds .«r_2»
+  pub right-is : r .board .«c_2» ≡ g .bounds .«c_2»
   pub rows-are : r .board .r ≡ countIn (quartersOf (g .rows))
   pub columns-are : r .board .c ≡ countIn (quartersOf (g .columns))
   pub columns-unbeaten : Unbeaten (columnAxis g) (columnsHanded r scores)

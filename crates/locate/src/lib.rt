@@ -1,7 +1,8 @@
-// Locating the board (01, "Locating"; 02, R-1, R-3 and R-4). It refuses with 13, then 1, 3 and 4, then 5 to 9. Definitions:
+// Locating the board (01, "Locating"; 02, R-1 and R-3 to R-5). It refuses with 13, then 1, 3 and 4, then 5 to 9. Definitions:
 // specs/Reference (what it is held to, from the factor, sides and planes as handed in), specs/Locate (what a call hands
-// back and leaves), specs/Promise (on the same edge picture no walk and no vote beats what it hands back). The loop of
-// narrowings is crate narrowings, the scores and their readings crate axes.
+// back and leaves), specs/Promise (on the same edge picture no walk and no vote beats what it hands back), specs/Corners
+// (where both corners of its record lie). The loop of narrowings is crate narrowings, the scores and their readings crate
+// axes.
 ghost use mathlib.Core.Path.{_≡_};
 ghost use mathlib.Core.Bool.{false};
 ghost use mathlib.Core.List.{[]};
@@ -13,6 +14,7 @@ ghost use Rattle.axes.specs.Inner.{Fits32};
 ghost use Rattle.locate.specs.Locate as Spec;
 ghost use Rattle.locate.specs.Locate.{lent, slicesShort, checked, LocateGives};
 ghost use Rattle.locate.specs.Promise.{Promise};
+ghost use Rattle.locate.specs.Corners.{CornersHold};
 ghost use Rattle.locate.specs.Inner.{NoneShort, Leads, ReadsFrom, Works};
 use board::Board;
 use board::Bounds;
@@ -277,7 +279,7 @@ pub fn get_pos_pixel(
         (now («scratch_f32» .entry)) (now («scratch_u8» .entry)) (now («scratch_u32» .entry)) in
         let after = lent (now (planes .exit)) (now (edges .exit)) (now (scores .exit))
         (now («scratch_f32» .exit)) (now («scratch_u8» .exit)) (now («scratch_u32» .exit)) in
-        ⌜ LocateGives b factor before r after × Promise b factor before r after ⌝ }
+        ⌜ LocateGives b factor before r after × Promise b factor before r after × CornersHold b r ⌝ }
 {
     let answer = check(
         b,

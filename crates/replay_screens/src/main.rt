@@ -38,6 +38,8 @@ fn show(l: Located, planes: &[f32]) {
     number(b.width as u64);
     number(b.r_1 as u64);
     number(b.c_1 as u64);
+    number(b.r_2 as u64);
+    number(b.c_2 as u64);
     number(b.r0 as u64);
     number(b.c0 as u64);
     number(b.r as u64);

@@ -1,7 +1,7 @@
 -- What the checks of a cell tell, and what each way out of a call leaves. Assumes nothing.
 use Prim.Native.Nat.{ℕ, zero, suc, _*_, _≤_, _<_}
 use mathlib.Core.Path.{_≡_, refl}
-use mathlib.Core.Bool.{Bool, true, false, cond, _&&_, _||_}
+use mathlib.Core.Bool.{Bool, true, false, not, cond, _&&_, _||_}
 use mathlib.Core.List.{List}
 use native.Mathlib.Nat.{not-suc-le-zero, mul-le-mul}
 use native.Mathlib.Omega.{arith}
@@ -16,8 +16,8 @@ use Rattle.board.specs.Board.{leastPlaneSide, mostSize}
 use Rattle.board.proofs.Sides.{both, neither, passed}
 use Rattle.board.specs.Planes.{planesAnswer}
 use Rattle.sample.specs.Inner.{AxisIn, CellGives}
-use Rattle.sample.specs.Sample.{mostNumber, rowAt, columnAt, pitchOutside, allBelow, numbersAbove, cell, cellAnswer, sampleAnswer}
-use Rattle.sample.specs.Sample.{SampleGives, mostCellValues}
+use Rattle.sample.specs.Sample.{mostNumber, rowAt, columnAt, pitchOutside, allBelow, numbersAbove, onBoard, cell, cellAnswer}
+use Rattle.sample.specs.Sample.{sampleAnswer, SampleGives, mostCellValues}
 
 -- two rules that agree below n
 pub all-below-same : (f g : ℕ → ℕ) (limit n : ℕ) → ((i : ℕ) → i < n → f i ≡ g i) → allBelow f limit n ≡ allBelow g limit n
@@ -74,7 +74,8 @@ unfolding cellAnswer
 cell-in b x y size room e =
     let p = passed (pitchOutside (b .pixelr) || pitchOutside (b .pixelc)) 9 _ e in
     let n = passed (numbersAbove x y (b .«r_1») (b .«c_1») (b .r0) (b .c0) size) 10 _ (p .1) in
-    let o = passed (ltb room (3 * (size * size))) 2 _ (n .1) in
+    let c = passed (not (onBoard b x y)) 13 _ (n .1) in
+    let o = passed (ltb room (3 * (size * size))) 2 _ (c .1) in
     let rows = allBelow (rowAt b x size) (b .height) size in
     let columns = allBelow (columnAt b y size) (b .width) size in
     let a = both rows columns (all-in (rows && columns) (o .1)) in
@@ -85,12 +86,12 @@ cell-in b x y size room e =
       columns = below-at (columnAt b y size) (b .width) size (a .1);
     }
 
--- where the numbers pass, the places decide
+-- where the numbers pass and the cell is on the board, the places decide
 pub decided : (b : Board) (x y size room : ℕ) → (pitchOutside (b .pixelr) || pitchOutside (b .pixelc)) ≡ false
-    → numbersAbove x y (b .«r_1») (b .«c_1») (b .r0) (b .c0) size ≡ false → 3 * (size * size) ≤ room
+    → numbersAbove x y (b .«r_1») (b .«c_1») (b .r0) (b .c0) size ≡ false → onBoard b x y ≡ true → 3 * (size * size) ≤ room
     → cellAnswer b x y size room ≡ cond (allBelow (rowAt b x size) (b .height) size && allBelow (columnAt b y size) (b .width) size) 0 12
 unfolding cellAnswer
-decided b x y size room p n o = rw (p, n, le-ltb _ _ o)
+decided b x y size room p n c o = rw (p, n, c, le-ltb _ _ o)
 
 -- ---- the ways out
 

@@ -1,4 +1,4 @@
--- 01, "Cell sampling", its refusals, and 02, R-2. All operations are binary32, in the order written.
+-- 01, "Cell sampling", its refusals, and 02, R-2 and R-5. All operations are binary32, in the order written.
 use Prim.Native.Nat.{ℕ, zero, suc, _*_, _/_, _%_, _≤_}
 use mathlib.Core.Path.{_≡_}
 use mathlib.Core.Bool.{Bool, true, false, not, cond, _&&_, _||_}
@@ -55,14 +55,19 @@ numbersAbove x y r₁ c₁ r₀ c₀ size =
     ltb mostNumber x || ltb mostNumber y || ltb mostNumber r₁ || ltb mostNumber c₁ || ltb mostNumber r₀ || ltb mostNumber c₀
     || ltb mostSize size
 
+-- 02, R-5: a cell is on the board if x < r and y < c
+unfoldable pub onBoard : Board → ℕ → ℕ → Bool
+onBoard b x y = ltb x (b .r) && ltb y (b .c)
+
 -- the answer where the checks of the planes passed, for `room` entries of output
 unfoldable pub cellAnswer : Board → ℕ → ℕ → ℕ → ℕ → ℕ
-unfolding pitchOutside numbersAbove sampledAt
+unfolding pitchOutside numbersAbove onBoard sampledAt
 cellAnswer b x y size room =
     cond (pitchOutside (b .pixelr) || pitchOutside (b .pixelc)) 10
     (cond (numbersAbove x y (b .«r_1») (b .«c_1») (b .r0) (b .c0) size) 11
+    (cond (not (onBoard b x y)) 14
     (cond (ltb room (3 * (size * size))) 3
-    (cond (allBelow (rowAt b x size) (b .height) size && allBelow (columnAt b y size) (b .width) size) 0 12)))
+    (cond (allBelow (rowAt b x size) (b .height) size && allBelow (columnAt b y size) (b .width) size) 0 12))))
 
 -- the answer of a call, on any planes
 unfoldable pub sampleAnswer : Board → List Float → ℕ → ℕ → ℕ → ℕ → ℕ

@@ -1,5 +1,6 @@
-// Sampling a cell of the board (01, "Cell sampling", and 02, R-2). A call refuses with 1, 3, 4, 10, 11, 3 and 12, in that order, before
-// it writes. Definitions: specs/Sample; specs/Inner is for the inner functions. Laws for callers: proofs/Laws (the room that a cell takes).
+// Sampling a cell of the board (01, "Cell sampling", and 02, R-2 and R-5). A call refuses with 1, 3, 4, 10, 11, 14, 3 and 12, in that order,
+// before it writes. Definitions: specs/Sample; specs/Inner is for the inner functions. Laws for callers: proofs/Laws (the room that a cell
+// takes).
 ghost use mathlib.Core.Path.{_≡_};
 ghost use Prim.Native.Nat.{ℕ, _+_, _*_, _≤_, _<_};
 ghost use lib.ListN.{length, getD};
@@ -39,6 +40,13 @@ fn numbers_above(
         | (MOST_NUMBER < r0)
         | (MOST_NUMBER < c0)
         | (Board::MOST_SIZE < size)
+}
+
+// Of the record only the counts are looked at: a caller may have set them and no far corner.
+fn on_board(b: Board, x: usize, y: usize) -> bool
+    ensures { λ r. ⌜ r ≡ Spec.onBoard b x y ⌝ }
+{
+    (x < b.r) & (y < b.c)
 }
 
 // The row, or the column, of point i of a cell.
@@ -103,6 +111,9 @@ fn cell_answer(b: Board, x: usize, y: usize, size: usize, room: usize) -> u32
     }
     if numbers_above(x, y, b.r_1, b.c_1, b.r0, b.c0, size) {
         return 11;
+    }
+    if !on_board(b, x, y) {
+        return 14;
     }
     if room < 3 * (size * size) {
         return 3;

@@ -1,8 +1,9 @@
 //! Screens and what locating leaves of each, for crates/replay_screens. The file has the screens one
 //! after another: height and width, two bytes each, low byte first, then the pixels. A line for each
-//! factor has the answer, the Rust's fields afterwards and values of its planes, pitches and values by
-//! their bits. The answer is 0 where the Rust reads the board; where it returns early or panics, 01's
-//! number for that. The Rust is the copy that is changed as 02 says (build.rs).
+//! factor has the answer, the Rust's fields afterwards, with r_2 and c_2 from its widened bounds where it
+//! reads the board, and values of its planes, pitches and values by their bits. The answer is 0 where the
+//! Rust reads the board; where it returns early or panics, 01's number for that. The Rust is the copy that
+//! is changed as 02 says (build.rs).
 
 use super::asked::{Asked, Kind};
 use crate::original::locate::traced;
@@ -47,9 +48,9 @@ pub fn write(file: &Path) -> Result<(), String> {
         }
         for factor in FACTORS {
             let run = traced(&pixels, asked.height, asked.width, factor)?;
-            let Record { height, width, r_1, c_1, r0, c0, r, c, pixelr, pixelc } = run.record;
+            let Record { height, width, r_1, c_1, r_2, c_2, r0, c0, r, c, pixelr, pixelc } = run.board();
             let values = PLACES.map(|at| run.planes.get(at).map_or(0, |x| x.to_bits()).to_string());
-            print!("{} {height} {width} {r_1} {c_1} {r0} {c0} {r} {c} ", run.answer);
+            print!("{} {height} {width} {r_1} {c_1} {r_2} {c_2} {r0} {c0} {r} {c} ", run.answer);
             println!("{pixelr} {pixelc} {}", values.join(" "));
         }
         screens.extend(pixels);

@@ -20,6 +20,8 @@ pub fn measure(height: usize, width: usize) -> Vec<(String, (Duration, Duration)
         width,
         r_1: 20,
         c_1: 30,
+        r_2: 700,
+        c_2: 1000,
         r0: 3,
         c0: 4,
         r: 20,
@@ -29,7 +31,7 @@ pub fn measure(height: usize, width: usize) -> Vec<(String, (Duration, Duration)
     };
     let rust = steps::board(&record, &planes);
     let mut out = vec![0.0; 3 * SIZE * SIZE];
-    let cell = |turn: u32| ((turn % 20) as usize, (turn % 31) as usize);
+    let cell = |turn: u32| ((turn % 20) as usize, (turn % 30) as usize);
     let run_rust = || {
         timed(|| {
             for turn in 0..TOGETHER {

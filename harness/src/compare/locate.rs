@@ -1,10 +1,10 @@
-//! Locating beside `get_pos_pixel`, with each factor: every field, the planes, the edge picture of the
-//! last picture and both score lists. All comes from the probed copy, which narrows by the factor, goes on
+//! Locating beside `get_pos_pixel`, with each factor: every field, the far corner by its widened bounds, the
+//! planes, the edge picture of the last picture and both score lists. All comes from the probed copy, which narrows by the factor, goes on
 //! with that picture and scores column c_2 - 2 and row r_2 - 2 too; with the factor of the unchanged file
 //! this is run too, and must do the same on every screen that gets too small, and on the others what the
 //! first edge picture gives without the two added scores.
 
-use super::built::{Built, End, DEPARTURES, LARGE, ONE_MORE, READ_NARROWED};
+use super::built::{Built, End, CORNERS, DEPARTURES, LARGE, ONE_MORE, READ_NARROWED};
 use super::lent::Lent;
 use super::met::{as_built, Met, Row};
 use super::values::UNFIT;
@@ -64,6 +64,12 @@ pub fn compare(run: &Run) -> Outcome {
         let counts = |record: Record| [record.r, record.c];
         let have = run.without.map(|(_, record)| (counts(run.record), counts(record)));
         as_built(&format!("{built:?}"), Some((*wanted, *unchanged)), have)?;
+    }
+    for (built, wanted) in CORNERS {
+        cases.built(built)?;
+        let Record { r_1, c_1, r_2, c_2, .. } =
+            traced(&built.pixels(), built.height, built.width, built.factor)?.board();
+        as_built(&format!("{built:?}"), *wanted, [r_1, c_1, r_2, c_2])?;
     }
     cases.met.built = false;
     for factor in FACTORS {
@@ -586,6 +592,8 @@ impl Cases {
                 width,
                 r_1: rng.next() as usize,
                 c_1: rng.below(100),
+                r_2: rng.next() as usize,
+                c_2: rng.below(100),
                 r0: rng.next() as usize,
                 c0: rng.below(100),
                 r: rng.next() as usize,
@@ -692,9 +700,9 @@ fn unlike(want: &Located, have: &Located) -> Option<String> {
 fn wanted(pixels: &[u8], call: &Call) -> Result<Wanted, String> {
     let run = traced(pixels, call.height, call.width, call.factor)?;
     departures(&run)?;
-    let (answer, rust) = (run.answer, run.record);
+    let (answer, rust, board) = (run.answer, run.record, run.board());
     let given = Record { height: rust.height, width: rust.width, ..call.given };
-    let mut located = refused(if answer == 0 { &rust } else { &given }, answer);
+    let mut located = refused(if answer == 0 { &board } else { &given }, answer);
     located.narrowed = run.seen.narrowed as u32;
     if answer == 0 {
         [located.quarterr, located.quarterc] = run.quarters();

@@ -1,15 +1,19 @@
-//! Sampling beside `extra_save_cell`: bits, or its panic as refusal 12. What 01 and 02 refuse is
-//! held to the rule, and the Rust there to the values at the places of 01's formula.
+//! Sampling beside `extra_save_cell`: bits, or its panic as refusal 12, of cells on the board. What 01 and
+//! 02 refuse is held to the rule, and the Rust there to the values at the places of 01's formula.
 
 use super::lent::Lent;
 use super::met::{as_built, Met, Row};
 use super::values::{planes, UNFIT};
 use super::{Outcome, Run, Tally};
+use crate::original::locate::traced;
+use crate::original::probe::OWN_FACTOR;
 use crate::original::steps;
 use crate::port::{self, Board};
 use crate::quiet::caught;
 use crate::record::Record;
 use crate::rng::Rng;
+use crate::screens::{self, Drawn};
+use crate::FACTORS;
 
 const MOST: usize = 4096;
 const MOST_SIZE: usize = 24;
@@ -71,13 +75,14 @@ pub fn compare(run: &Run) -> Outcome {
         }
     }
     near_whole(rng, &mut cases, run)?;
+    let around = around_located(rng, &mut cases, run)?;
     let Cases { count, sampled, met, .. } = cases;
     if let Some(size) = sampled.iter().position(|&calls| calls == 0) {
         return Err(format!("no call with size {size} was sampled"));
     }
     let all: u64 = sampled.iter().sum();
     let fewest = sampled.iter().min().unwrap();
-    let note = format!("; {all} sampled, each size at least {fewest} times{}", met.note()?);
+    let note = format!("; {all} sampled, each size at least {fewest} times; {around}{}", met.note()?);
     Ok(Tally { cases: count, note })
 }
 
@@ -85,9 +90,20 @@ const PITCH: &str = "a pitch below 8.0, above 200.0, negative, 0 or no number";
 const NUMBER: &str = "x, y, r_1, c_1, r0 or c0 above 4,096, size 1 to 24";
 const NUMBER_SIZE_0: &str = "the same at size 0";
 const SIZE: &str = "a size above 24";
+const OFF_BOARD: &str = "a cell that is not on the board, x of r or more or y of c or more";
 const OUTSIDE: &str = "a sampled place is not in the picture";
 
 const SIX: &[&str] = &["x", "y", "r_1", "c_1", "r0", "c0"];
+
+/// Of a cell that is not on the board: which number is too large, and what the Rust does.
+const OFF: &[&str] = &[
+    "x, samples",
+    "x, panics",
+    "x, size 0",
+    "y, samples",
+    "y, panics",
+    "y, size 0",
+];
 
 /// Rows marked (run).
 const ROWS: &[Row] = &[
@@ -95,6 +111,7 @@ const ROWS: &[Row] = &[
     (NUMBER, SIX),
     (NUMBER_SIZE_0, SIX),
     (SIZE, &[]),
+    (OFF_BOARD, OFF),
     (OUTSIDE, &[]),
 ];
 
@@ -125,6 +142,8 @@ fn built(cases: &mut Cases) -> Result<(), String> {
         c_1: 7,
         r0: 3,
         c0: 2,
+        r: 50,
+        c: 60,
         pixelr: ten,
         pixelc: ten,
         ..Record::default()
@@ -162,7 +181,24 @@ fn built(cases: &mut Cases) -> Result<(), String> {
         }
     }
     one(Call { x: 40, ..fitting }, (12, false))?;
-    one(Call { y: 40, ..fitting }, (12, false))
+    one(Call { y: 40, ..fitting }, (12, false))?;
+    // the last cell on a board of x rows or y columns, and the first that is not
+    for down in [true, false] {
+        for (cell, in_picture) in [(0, true), (2, true), (40, false)] {
+            let mut last = fitting;
+            *(if down { &mut last.x } else { &mut last.y }) = cell;
+            *(if down { &mut last.record.r } else { &mut last.record.c }) = cell + 1;
+            let end = if in_picture { 0 } else { 12 };
+            one(last, (end, in_picture))?;
+            let mut first = last;
+            *(if down { &mut first.record.r } else { &mut first.record.c }) = cell;
+            one(first, (14, in_picture))?;
+            one(Call { out: 0, ..first }, (14, in_picture))?;
+            one(Call { size: 0, out: 0, ..first }, (14, true))?;
+            one(Call { size: MOST_SIZE + 1, ..first }, (11, in_picture))?;
+        }
+    }
+    Ok(())
 }
 
 /// Places that are whole numbers or next to one, where another order of the roundings shows: the
@@ -176,7 +212,7 @@ fn near_whole(rng: &mut Rng, cases: &mut Cases, run: &Run) -> Result<(), String>
         let (height, width) = if down { (LONG, LOW) } else { (LOW, LONG) };
         let (start, eight) = (rng.pick(&[0, 0, 0, 1, 3]), 8.0f32.to_bits());
         let mut record =
-            Record { height, width, pixelr: eight, pixelc: eight, ..Record::default() };
+            Record { height, width, r: 2, c: 2, pixelr: eight, pixelc: eight, ..Record::default() };
         if down {
             (record.pixelr, record.r0) = (pitch.to_bits(), start);
         } else {
@@ -206,6 +242,89 @@ fn near_whole(rng: &mut Rng, cases: &mut Cases, run: &Run) -> Result<(), String>
         }
     }
     Ok(())
+}
+
+/// A board of 22 by 57 that is read as one row of seven cells with the pitch 8.0 across, from column 3 on: at
+/// size 24 the last of them reaches off the picture.
+fn reaching_out() -> (usize, usize, Vec<u8>) {
+    let (height, width) = (22, 57);
+    let colours = vec![[38, 121, 86, 158]];
+    let board =
+        Drawn { top: 1, left: 1, rows: 1, columns: 9, down: 12, across: 6, rim: 1, colours };
+    (height, width, board.screen(height, width))
+}
+
+/// What became of the cells of located boards and of those beside them.
+#[derive(Default)]
+struct Around {
+    boards: u64,
+    narrowed: u64,
+    sampled: u64,
+    /// On the board and off the picture.
+    off_picture: u64,
+    beside: u64,
+}
+
+impl Around {
+    /// Every cell of the board, and those beside it to the right and below, by the record and the planes that
+    /// the Rust leaves. Nothing where it reads no board.
+    fn board(
+        &mut self,
+        rng: &mut Rng,
+        cases: &mut Cases,
+        factor: usize,
+        (height, width, pixels): (usize, usize, Vec<u8>),
+    ) -> Result<(), String> {
+        let located = traced(&pixels, height, width, factor)?;
+        if located.answer != 0 {
+            return Ok(());
+        }
+        self.boards += 1;
+        self.narrowed += (located.seen.narrowed > 0) as u64;
+        let record = located.board();
+        for x in 0..record.r + 2 {
+            for y in 0..record.c + 2 {
+                for size in [rng.pick(&[0, 1, 2, 8]), MOST_SIZE] {
+                    let call = Call { record, x, y, size, out: 3 * size * size };
+                    cases.one(&call, &located.planes)?;
+                    match cases.end {
+                        Some((14, _)) => self.beside += 1,
+                        Some((12, _)) => self.off_picture += 1,
+                        _ => self.sampled += 1,
+                    }
+                }
+            }
+        }
+        Ok(())
+    }
+}
+
+fn around_located(rng: &mut Rng, cases: &mut Cases, run: &Run) -> Result<String, String> {
+    let mut around = Around::default();
+    around.board(rng, cases, OWN_FACTOR, reaching_out())?;
+    if around.off_picture == 0 {
+        return Err("the last cell of the board of 22 by 57 is not off the picture".into());
+    }
+    while around.boards < run.choose(60, 2_000) {
+        let factor = rng.between(*FACTORS.start(), *FACTORS.end());
+        let zoomed = around.boards % 4 == 0;
+        let (least, most) = if zoomed { (67 * factor, 67 * factor + 60) } else { (20, 120) };
+        let (height, width) = (rng.between(least, most), rng.between(least, most));
+        let pixels = if zoomed {
+            screens::zoomed(rng, height, width, factor, 1)
+        } else {
+            Drawn::filling(rng, height, width, 6, 20).screen(height, width)
+        };
+        around.board(rng, cases, factor, (height, width, pixels))?;
+    }
+    let Around { boards, narrowed, sampled, off_picture, beside } = around;
+    if narrowed == 0 {
+        return Err("no board that was sampled was narrowed".into());
+    }
+    Ok(format!(
+        "of {boards} located boards, {narrowed} of them narrowed: {sampled} on the board and sampled, \
+         {off_picture} on the board and off the picture, {beside} beside it"
+    ))
 }
 
 fn sides(rng: &mut Rng) -> (usize, usize) {
@@ -247,10 +366,11 @@ fn fitting(rng: &mut Rng, height: usize, width: usize) -> Call {
             c_1,
             r0,
             c0,
-            r: rng.below(50),
-            c: rng.next() as usize,
+            r_2: rng.next() as usize,
+            c_2: rng.below(2 * width),
             pixelr: pixelr.to_bits(),
             pixelc: pixelc.to_bits(),
+            ..Record::default()
         },
         x,
         y,
@@ -261,8 +381,21 @@ fn fitting(rng: &mut Rng, height: usize, width: usize) -> Call {
         let which = rng.below(6);
         *call.numbers()[which] = rng.pick(&[MOST, MOST - 1, 0, 100, 1000]);
     }
+    call.record.r = count(rng, call.x);
+    call.record.c = count(rng, call.y);
     call.out = 3 * call.size * call.size + rng.pick(&[0, 0, 1, 40]);
     call
+}
+
+/// A count of rows or columns for a cell: most have the cell, some just so, a few do not.
+fn count(rng: &mut Rng, cell: usize) -> usize {
+    match rng.below(24) {
+        0 => cell,
+        1 => rng.below(cell + 1),
+        2 => usize::MAX,
+        3..=8 => cell + 1,
+        _ => cell + rng.between(1, 50),
+    }
 }
 
 /// One rule or more is broken.
@@ -284,7 +417,7 @@ fn break_rules(rng: &mut Rng, call: &mut Call) {
     ];
     let numbers = [MOST + 1, 5000, 1 << 24, (1 << 24) + 1, 1 << 32, 1 << 63, usize::MAX];
     for _ in 0..rng.between(1, 2) {
-        match rng.below(9) {
+        match rng.below(11) {
             0 => call.record.pixelr = rng.pick(&patterns),
             1 => call.record.pixelc = rng.pick(&patterns),
             2 => call.x = rng.pick(&numbers),
@@ -293,6 +426,8 @@ fn break_rules(rng: &mut Rng, call: &mut Call) {
             5 => call.record.c0 = rng.pick(&numbers),
             6 => call.size = rng.pick(&[25, 26, 64, 100, 0]),
             7 => call.size = rng.pick(&[1 << 32, usize::MAX, 25]),
+            8 => call.record.r = rng.below(call.x.saturating_add(1)),
+            9 => call.record.c = rng.below(call.y.saturating_add(1)),
             _ => call.out = call.out.saturating_sub(rng.between(1, 60)),
         }
     }
@@ -323,6 +458,20 @@ impl Cases {
         match (answer, returns) {
             (0, _) => self.sampled[call.size] += 1,
             (12, _) => self.met.count(OUTSIDE),
+            (14, _) => {
+                let what = match (call.size, returns) {
+                    (0, _) => 2,
+                    (_, true) => 0,
+                    (_, false) => 1,
+                };
+                for (axis, off) in
+                    [call.x >= call.record.r, call.y >= call.record.c].into_iter().enumerate()
+                {
+                    if off {
+                        self.met.count_part(OFF_BOARD, OFF[3 * axis + what]);
+                    }
+                }
+            }
             (10, true) => {
                 let pitches = [call.record.pixelr, call.record.pixelc];
                 let kinds = pitches.into_iter().filter_map(kind);
@@ -385,9 +534,9 @@ impl Cases {
     }
 }
 
-/// Where the Rust does not do what docs/DIFFERENCES.md says at 10, 11 and 12.
+/// Where the Rust does not do what docs/DIFFERENCES.md says at 10, 11, 12 and 14.
 fn departs(call: &Call, planes: &[f32], answer: u32, rust: Option<&[f32]>) -> Option<String> {
-    if !matches!(answer, 10..=12) {
+    if !matches!(answer, 10..=12 | 14) {
         return None;
     }
     let size = call.size;
@@ -456,6 +605,9 @@ fn rule(call: &Call, planes: &[f32]) -> Option<u32> {
     let numbers = [call.x, call.y, r.r_1, r.c_1, r.r0, r.c0];
     if numbers.iter().any(|&n| n > MOST) || call.size > MOST_SIZE {
         return Some(11);
+    }
+    if call.x >= r.r || call.y >= r.c {
+        return Some(14);
     }
     (call.out < 3 * call.size * call.size).then_some(3)
 }

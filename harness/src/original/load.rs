@@ -20,6 +20,7 @@ pub fn record(board: &ImageBoard) -> Record {
         c: board.c,
         pixelr: board.pixelr.to_bits(),
         pixelc: board.pixelc.to_bits(),
+        ..Record::default()
     }
 }
 

@@ -95,6 +95,15 @@ fn without_added(sides: &Record, seen: &Seen) -> (bool, Record) {
 }
 
 impl Traced {
+    /// The record that the port must leave of a fresh one where the board is read: the Rust's, with the far
+    /// corner of its widened bounds (02, R-5).
+    pub fn board(&self) -> Record {
+        match (self.answer, self.seen.widened) {
+            (0, Some([_, r_2, _, c_2])) => Record { r_2, c_2, ..self.record },
+            _ => self.record,
+        }
+    }
+
     /// Both pitches in quarters, rows first.
     pub fn quarters(&self) -> [u32; 2] {
         [self.record.pixelr, self.record.pixelc].map(|bits| (f32::from_bits(bits) * 4.0) as u32)

@@ -8,7 +8,7 @@ pub type Points = Vec<Vec<bool>>;
 
 /// A board over planes that lie one after another, with the record's fields.
 pub fn board(record: &Record, planes: &[f32]) -> ImageBoard {
-    let Record { height, width, r_1, c_1, r0, c0, r, c, pixelr, pixelc } = *record;
+    let Record { height, width, r_1, c_1, r0, c0, r, c, pixelr, pixelc, .. } = *record;
     let plane = |k: usize| {
         (0..height).map(|i| planes[(k * height + i) * width..][..width].to_vec()).collect()
     };

@@ -1,10 +1,10 @@
 -- `sample::cell_answer` meets its contract: each test is the rule's, in its order, and what was passed bounds the numbers that the
 -- places are made of.
 use mathlib.Core.Path.{_≡_, sym, _∙_}
-use mathlib.Core.Bool.{false, cond, _&&_, _||_}
+use mathlib.Core.Bool.{true, false, cond, _&&_, _||_}
 use native.Mathlib.Omega.{arith}
-use borrow.Author.Tests.{lt-ltb}
-use Rattle.sample.specs.Sample.{pitchOutside, numbersAbove, cellAnswer}
+use borrow.Author.Tests.{lt-ltb, not-true, not-false}
+use Rattle.sample.specs.Sample.{pitchOutside, numbersAbove, onBoard, cellAnswer}
 use Rattle.sample.proofs.Answers.{NumbersIn, numbers-in, decided}
 use Rattle.sample.proofs.cell_answer.Statement.{statement}
 use Rattle.sample.proofs.cell_answer.Tie as tie
@@ -17,7 +17,10 @@ abbrev at-pitches : tie.Else2 → tie.Else1
 at-pitches c = c .before .before
 
 abbrev at-numbers : tie.Else3 → tie.Else2
-at-numbers c = c .before
+at-numbers c = c .before .before
+
+abbrev at-board : tie.Else4 → tie.Else3
+at-board c = c .before
 
 -- what they tell
 pitches : (c : tie.Else1) → let b = at-start c .args .b in (pitchOutside (b .pixelr) || pitchOutside (b .pixelc)) ≡ false
@@ -31,12 +34,15 @@ numbers : (c : tie.Else2) → let s = at-start (at-pitches c) .args in let b = s
     NumbersIn (s .x) (s .y) (b .«r_1») (b .«c_1») (b .r0) (b .c0) (s .size)
 numbers c = numbers-in _ _ _ _ _ _ _ (above c)
 
-places : (c : tie.After-inside2) → let s = at-start (at-pitches (at-numbers (c .before .before))) .args in
+on-board : (c : tie.Else3) → let s = at-start (at-pitches (at-numbers c)) .args in onBoard (s .b) (s .x) (s .y) ≡ true
+on-board c = sym (c .before .on-board .ensures) ∙ not-false _ (c .if3 .left)
+
+places : (c : tie.After-inside2) → let s = at-start (at-pitches (at-numbers (at-board (c .before .before)))) .args in
     cellAnswer (s .b) (s .x) (s .y) (s .size) (s .room) ≡ cond (c .before .inside .result && c .inside2 .result) 0 12
 places c =
-    let at = at-numbers (c .before .before) in
+    let at = at-board (c .before .before) in
     rw (c .before .inside .ensures, c .inside2 .ensures)
-    (decided _ _ _ _ _ (pitches (at-pitches at)) (above at) (c .before .before .if3 .left))
+    (decided _ _ _ _ _ (pitches (at-pitches (at-numbers at))) (above (at-numbers at)) (on-board at) (c .before .before .if4 .left))
 
 pitch-outside-requires : tie.Need-pitch-outside-requires
 pitch-outside-requires c κs = tt
@@ -55,27 +61,38 @@ returns-2 : tie.Need-returns-2
 unfolding cellAnswer
 returns-2 c = rw (pitches (c .before .before), sym (c .before .numbers-above .ensures) ∙ c .if2 .taken)
 
-mul-if3 : tie.Need-mul-if3
-mul-if3 c = omega (arith, numbers c .fits)
-
-mul-if3-2 : tie.Need-mul-if3-2
-mul-if3-2 c = omega (arith, numbers c .fits)
+on-board-requires : tie.Need-on-board-requires
+on-board-requires c κs = tt
 
 returns-3 : tie.Need-returns-3
 unfolding cellAnswer
-returns-3 c = rw (pitches (c .before .before .before), above (c .before), lt-ltb _ _ (c .if3 .taken))
+returns-3 c =
+    let at = c .before .before in
+    rw (pitches (at-pitches at), above at, sym (c .before .on-board .ensures) ∙ not-true _ (c .if3 .taken))
 
-inside-requires : tie.Need-inside-requires
-inside-requires c κs = numbers (c .before) .down
+mul-if4 : tie.Need-mul-if4
+mul-if4 c = omega (arith, numbers (at-numbers c) .fits)
 
-inside-requires-2 : tie.Need-inside-requires-2
-inside-requires-2 c κs = numbers (c .before .before) .across
+mul-if4-2 : tie.Need-mul-if4-2
+mul-if4-2 c = omega (arith, numbers (at-numbers c) .fits)
 
 returns-4 : tie.Need-returns-4
-returns-4 c = rw (places (c .before), c .if4 .taken)
+unfolding cellAnswer
+returns-4 c =
+    let at = c .before in
+    rw (pitches (at-pitches (at-numbers at)), above (at-numbers at), on-board at, lt-ltb _ _ (c .if4 .taken))
+
+inside-requires : tie.Need-inside-requires
+inside-requires c κs = numbers (at-numbers (at-board c)) .down
+
+inside-requires-2 : tie.Need-inside-requires-2
+inside-requires-2 c κs = numbers (at-numbers (at-board (c .before))) .across
 
 returns-5 : tie.Need-returns-5
-returns-5 c = rw (places (c .before), c .if4 .left)
+returns-5 c = rw (places (c .before), c .if5 .taken)
+
+returns-6 : tie.Need-returns-6
+returns-6 c = rw (places (c .before), c .if5 .left)
 
 pub cell-answer-spec : {M : Type 1} → statement M
 cell-answer-spec =
@@ -86,10 +103,12 @@ cell-answer-spec =
     returns
     numbers-above-requires
     returns-2
-    mul-if3
-    mul-if3-2
+    on-board-requires
     returns-3
+    mul-if4
+    mul-if4-2
+    returns-4
     inside-requires
     inside-requires-2
-    returns-4
-    returns-5)
+    returns-5
+    returns-6)
