@@ -80,7 +80,6 @@ static const char *meaning(uint32_t answer)
     case FOLGUTAN_ROWS_NO_GAP: return "rows without a gap above 5";
     case FOLGUTAN_ROWS_TOO_FAR: return "rows too far apart";
     case FOLGUTAN_BAD_FACTOR: return "a factor is not 2 to 5";
-    case FOLGUTAN_NOT_ON_BOARD: return "a cell is not on the board";
     default: return "unknown";
     }
 }
@@ -117,7 +116,8 @@ static int print_board(folgutan_board board, float *planes, size_t planes_len)
                                              scratch_u32, 4 * sides);
         printf("locate: answer %u, %s\n", (unsigned)l.answer, meaning(l.answer));
         if (l.answer == FOLGUTAN_DONE) {
-            printf("board: %zu rows, %zu columns, corners (%zu, %zu) and (%zu, %zu), offsets %zu and %zu\n",
+            printf("board: %zu rows, %zu columns, corners (%zu, %zu) and (%zu, %zu), "
+                   "offsets %zu and %zu\n",
                    l.board.r, l.board.c, l.board.r_1, l.board.c_1, l.board.r_2, l.board.c_2,
                    l.board.r0, l.board.c0);
             printf("pitches: %.2f down with %u votes, %.2f across with %u votes\n", l.board.pixelr,

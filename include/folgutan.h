@@ -46,8 +46,8 @@ extern "C" {
 #define FOLGUTAN_MOST_LIST 4096
 #define FOLGUTAN_MOST_SCORE 4096
 
-/* Limits of sampling: both pitches, the numbers of a cell and of the record,
- * the size of a sampled cell, and how many values it has (02, R-2): an output
+/* Limits of sampling: both pitches, the numbers of a cell, the record's corner
+ * and offsets, the size of a sampled cell, and how many values it has (02, R-2): an output
  * of FOLGUTAN_MOST_CELL_VALUES entries, 1728, is never too short. */
 #define FOLGUTAN_LEAST_PITCH 8.0f
 #define FOLGUTAN_MOST_PITCH 200.0f
@@ -81,8 +81,9 @@ extern "C" {
 typedef struct {
     size_t height, width;  /* sides of the picture in the planes, in pixels */
     size_t r_1, c_1;       /* the corner: top row and left column of the board */
-    size_t r_2, c_2;       /* the far corner: its bottom row and right column
-                            * themselves, not one past. Set by locating alone,
+    size_t r_2, c_2;       /* the far corner: bottom row and right column of the
+                            * board themselves, not one past. Zeros after
+                            * loading; set by locating on FOLGUTAN_DONE alone,
                             * and looked at by no call */
     size_t r0, c0;         /* where the grid of cells begins, from the corner:
                             * the smallest offset with the most votes. No line
@@ -190,10 +191,10 @@ typedef struct {
  *                             apart
  *   FOLGUTAN_COLUMNS_TOO_FAR  column lines are some 206 or more apart
  *   FOLGUTAN_ROWS_NO_GAP, FOLGUTAN_ROWS_TOO_FAR  the same of the rows
- *   Then the record has the new sides, and its other fields are as given, so
- *   that after a narrowing a far corner as given can lie past the sides. A record
- *   given with r_1 < r_2 < height and c_1 < c_2 < width has it afterwards too,
- *   wherever its sides are unchanged.
+ *   Then the record has the new sides, and its other fields are as given: after
+ *   a narrowing a far corner as given can lie past the sides.
+ * Whatever the answer: a record given with r_1 < r_2 < height and
+ *   c_1 < c_2 < width has it afterwards too, wherever its sides are unchanged.
  *
  * After FOLGUTAN_DONE and the further refusals:
  * - planes hold the picture, narrowed as often as `narrowed` says and packed by
@@ -274,7 +275,7 @@ folgutan_reading folgutan_read_line(const uint32_t *list, size_t list_len,
  *   FOLGUTAN_BAD_PITCH    pixelr or pixelc is not 8.0 to 200.0
  *   FOLGUTAN_BAD_NUMBER   x, y, r_1, c_1, r0 or c0 is above 4096, or size
  *                         above 24
- *   FOLGUTAN_NOT_ON_BOARD  x is not below board.r, or y not below board.c; at
+ *   FOLGUTAN_NOT_ON_BOARD x is not below board.r, or y not below board.c; at
  *                         size 0 too. Where a count is 0, that is every cell
  *   FOLGUTAN_SHORT_SLICE  out_len is below 3 * size * size
  *   FOLGUTAN_OUTSIDE      a sampled row or column is not in the picture, which

@@ -783,8 +783,6 @@ static void read_board(const char *name, screen s, size_t factor, bounds widened
     check(b.height == height / s.times && b.width == width / s.times, where, "sides");
     check(b.r_1 == widened.r_1 && b.c_1 == widened.c_1, where, "corner");
     check(b.r_2 == widened.r_2 && b.c_2 == widened.c_2, where, "far corner");
-    check(b.r_1 + 4 <= b.r_2 && b.r_2 + 3 <= b.height && b.c_1 + 4 <= b.c_2 && b.c_2 + 3 <= b.width,
-          where, "both corners in the edge picture");
     check(b.r == cells(d.height, d.top, d.down) && b.c == cells(d.width, d.left, d.across), where,
           "rows and columns");
     check(bits_of(b.pixelr) == bits_of((float)have.quarterr / 4.0f), where, "pitch down");

@@ -109,9 +109,13 @@ static void worked_case(void)
                 values &= bits_of(out[4 * k + 2 * i + j])
                           == bits_of(planes[144 * k + 12 * at[i] + at[j]]);
     check(values, "sample, worked case", "values");
-    for (size_t at = 1; at < 4; at++) {
-        answer = folgutan_sample(board, planes, COUNT(planes), at & 1, at >> 1, 2, out, COUNT(out));
-        check(answer == FOLGUTAN_NOT_ON_BOARD, "sample, worked case", "a cell beside the board");
+    for (size_t cell = 1; cell < 4; cell++) {
+        float before[COUNT(out)];
+        memcpy(before, out, sizeof out);
+        answer =
+            folgutan_sample(board, planes, COUNT(planes), cell & 1, cell >> 1, 2, out, COUNT(out));
+        check(answer == FOLGUTAN_NOT_ON_BOARD && memcmp(before, out, sizeof out) == 0,
+              "sample, worked case", "a cell beside the board");
     }
 }
 

@@ -1,5 +1,5 @@
 -- The board record and its limits: 01, "Load" and "How each operation declines", and 02, R-1, R-2 and R-5.
-use Prim.Native.Nat.{ℕ, max, _+_, _*_, _≤_}
+use Prim.Native.Nat.{ℕ, max, _*_}
 use mathlib.Core.Path.{_≡_}
 use mathlib.Core.Bool.{Bool, not, _&&_, _||_}
 use lib.Dec.{leb, ltb}
@@ -104,13 +104,6 @@ withReading b bounds rows columns =
       pixelr = rows .pitch;
       pixelc = columns .pitch;
     }
-
--- 02, R-5: r_1 + span ≤ r_2 ≤ height − rim, and the same of the columns. With 1 and 1 this is r_1 < r_2 < height and c_1 < c_2 < width.
-pub record CornersIn (span rim : ℕ) (b : Board) : Type 0 where
-  pub rows : b .«r_1» + span ≤ b .«r_2»
-  pub row-end : b .«r_2» + rim ≤ b .height
-  pub columns : b .«c_1» + span ≤ b .«c_2»
-  pub column-end : b .«c_2» + rim ≤ b .width
 
 -- below the least or above the most
 unfoldable pub outside : ℕ → ℕ → ℕ → Bool

@@ -94,11 +94,11 @@ member i (p ∷ ps) = eqb i p || member i ps
 abbrev pub tens : ℕ → List ℕ → List ℕ
 tens n ps = tab n (λ i. cond (member i ps) 10 0)
 
--- the record of one cell in a square picture: along both axes the corner, the offset and the pitch are the same
-abbrev pub oneCell : ℕ → ℕ → ℕ → Float → Board
-oneCell side corner offset pitch =
+-- the record of a board of one cell in a square picture: corner 0, no far corner, and the same offset and pitch along both axes
+abbrev pub oneCell : ℕ → ℕ → Float → Board
+oneCell side offset pitch =
     let axis : Spacing = record { offset = offset; count = 1; pitch = pitch } in
-    withReading (fresh side side) (bounds corner corner corner corner) axis axis
+    withReading (fresh side side) (bounds 0 0 0 0) axis axis
 
 -- 8.0, 10.0, 9.0 and 200.0 by their bits
 abbrev pub eight : Float
@@ -134,9 +134,10 @@ cases =
     ∷ read (tens 300 (3 ∷ 208 ∷ [])) (Read twoHundred 3 1 1)
     ∷ read (tens 300 (3 ∷ 209 ∷ [])) (Refused 7)
     -- sampling with corner 0, offset 3, pitch 10.0, x = 0, size 2: rows 5 and 10; r and c are 1 (02, R-5)
-    ∷ sampled (oneCell 12 0 3 ten) 0 0 2 (5 ∷ 10 ∷ [])
+    ∷ sampled (oneCell 12 3 ten) 0 0 2 (5 ∷ 10 ∷ [])
     ∷ []
 
+-- those of requests of 02
 abbrev pub requested : List Case
 requested =
     -- R-4, a score for the last place but one
@@ -147,14 +148,14 @@ requested =
     -- rows 0 to 3, columns 0 to 4, only column 2 set: 0 1 3 1 0
     ∷ listed (only 2) (bounds 0 3 0 4) (0 ∷ 1 ∷ 3 ∷ 1 ∷ 0 ∷ [])
     -- R-5, only cells on the board: in the sampling case of 01 the cell is sampled, and x = 1 or y = 1 answers 14
-    ∷ answered (oneCell 12 0 3 ten) 0 0 2 12 0
-    ∷ answered (oneCell 12 0 3 ten) 1 0 2 12 14
-    ∷ answered (oneCell 12 0 3 ten) 0 1 2 12 14
+    ∷ answered (oneCell 12 3 ten) 0 0 2 12 0
+    ∷ answered (oneCell 12 3 ten) 1 0 2 12 14
+    ∷ answered (oneCell 12 3 ten) 0 1 2 12 14
     -- 20 by 20, pitches 8.0: (1, 0) with size 25, 11; with size 24 and no output, 14; (4097, 0), 11; (0, 0) with size 2 and 11 outputs, 3
-    ∷ answered (oneCell 20 0 0 eight) 1 0 25 0 11
-    ∷ answered (oneCell 20 0 0 eight) 1 0 24 0 14
-    ∷ answered (oneCell 20 0 0 eight) 4097 0 2 12 11
-    ∷ answered (oneCell 20 0 0 eight) 0 0 2 11 3
+    ∷ answered (oneCell 20 0 eight) 1 0 25 0 11
+    ∷ answered (oneCell 20 0 eight) 1 0 24 0 14
+    ∷ answered (oneCell 20 0 eight) 4097 0 2 12 11
+    ∷ answered (oneCell 20 0 eight) 0 0 2 11 3
     -- at size 0 too
-    ∷ answered (oneCell 20 0 0 eight) 1 1 0 0 14
+    ∷ answered (oneCell 20 0 eight) 1 1 0 0 14
     ∷ []

@@ -1,4 +1,4 @@
--- 01, "Locating" and its refusals, with 02, R-1, R-3 and R-4: what a call hands back and leaves.
+-- 01, "Locating" and its refusals, with 02, R-1 and R-3 to R-5: what a call hands back and leaves.
 use Prim.Native.Nat.{ℕ, _+_, _*_, _≤_}
 use mathlib.Core.Path.{_≡_}
 use mathlib.Core.Bool.{Bool, cond, _||_}

@@ -48,7 +48,8 @@ pub fn write(file: &Path) -> Result<(), String> {
         }
         for factor in FACTORS {
             let run = traced(&pixels, asked.height, asked.width, factor)?;
-            let Record { height, width, r_1, c_1, r_2, c_2, r0, c0, r, c, pixelr, pixelc } = run.board();
+            let Record { height, width, r_1, c_1, r_2, c_2, r0, c0, r, c, pixelr, pixelc } =
+                run.board();
             let values = PLACES.map(|at| run.planes.get(at).map_or(0, |x| x.to_bits()).to_string());
             print!("{} {height} {width} {r_1} {c_1} {r_2} {c_2} {r0} {c0} {r} {c} ", run.answer);
             println!("{pixelr} {pixelc} {}", values.join(" "));

@@ -181,11 +181,11 @@ pub const READ_NARROWED: &[Built] = &[
     zoomed(2, [543, 571], 3, 4),
 ];
 
-/// Screens that are read after a narrowing, with both corners r_1, c_1, r_2, c_2 of the board (02, R-5): from
-/// the first row and column of the edge picture to the last, and from and to other ones.
+/// Screens that are read after a narrowing, with r_1, r_2, c_1 and c_2 of the record (02, R-5): from the first
+/// row and column of the edge picture to the last, and from and to other ones.
 pub const CORNERS: &[(Built, [usize; 4])] = &[
-    (zoomed(3, [210, 210], 1, 13), [0, 0, 67, 67]),
-    (zoomed(3, [240, 260], 1, 1), [0, 11, 76, 70]),
+    (zoomed(3, [210, 210], 1, 13), [0, 67, 0, 67]),
+    (zoomed(3, [240, 260], 1, 1), [0, 76, 11, 70]),
 ];
 
 /// Large screens that are read: one of everyday sides, one whose sample's size m has another

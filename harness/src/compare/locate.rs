@@ -1,6 +1,6 @@
 //! Locating beside `get_pos_pixel`, with each factor: every field, the far corner by its widened bounds, the
-//! planes, the edge picture of the last picture and both score lists. All comes from the probed copy, which narrows by the factor, goes on
-//! with that picture and scores column c_2 - 2 and row r_2 - 2 too; with the factor of the unchanged file
+//! planes, the edge picture of the last picture and both score lists. All comes from the probed copy, which
+//! narrows by the factor, goes on with that picture and scores column c_2 - 2 and row r_2 - 2 too; with the factor of the unchanged file
 //! this is run too, and must do the same on every screen that gets too small, and on the others what the
 //! first edge picture gives without the two added scores.
 
@@ -27,7 +27,7 @@ const MOST: usize = 4096;
 /// Factors below this are run beside the Rust also where the port refuses them.
 const BESIDE: usize = 100;
 
-/// Answers are below this.
+/// Locating's answers are below this.
 const ANSWERS: usize = 14;
 
 /// The least side of a narrowed screen that can still be read.
@@ -67,9 +67,9 @@ pub fn compare(run: &Run) -> Outcome {
     }
     for (built, wanted) in CORNERS {
         cases.built(built)?;
-        let Record { r_1, c_1, r_2, c_2, .. } =
+        let Record { r_1, r_2, c_1, c_2, .. } =
             traced(&built.pixels(), built.height, built.width, built.factor)?.board();
-        as_built(&format!("{built:?}"), *wanted, [r_1, c_1, r_2, c_2])?;
+        as_built(&format!("{built:?}"), *wanted, [r_1, r_2, c_1, c_2])?;
     }
     cases.met.built = false;
     for factor in FACTORS {
@@ -143,6 +143,7 @@ fn refusals(cases: &mut Cases) -> Result<(), String> {
         for turn in 0..3 {
             let pixels = screens::noise(&mut cases.rng, 20, 20);
             let mut call = Call::fitting(cases.factor(), 20, 20);
+            call.fill(&mut cases.rng);
             call.set_sides(turn, side);
             cases.one(&pixels, &call)?;
             call.lengths = [0; 6];
@@ -177,6 +178,24 @@ impl Call {
             lengths: [3 * area, area, sides, area, area, 4 * sides],
             bad: None,
         }
+    }
+
+    /// Anything in the fields other than the sides.
+    fn fill(&mut self, rng: &mut Rng) {
+        self.given = Record {
+            height: self.given.height,
+            width: self.given.width,
+            r_1: rng.next() as usize,
+            c_1: rng.below(100),
+            r_2: rng.next() as usize,
+            c_2: rng.below(100),
+            r0: rng.next() as usize,
+            c0: rng.below(100),
+            r: rng.next() as usize,
+            c: rng.below(100),
+            pixelr: rng.word(),
+            pixelc: 0x7FC0_0001,
+        };
     }
 
     /// The height, the width or both.
@@ -291,6 +310,8 @@ struct Cases {
     met: Met,
     /// Built cases on which the unchanged file came to another record by the first edge picture.
     moved: u64,
+    /// Built cases that are read with an r_2 and a c_2 that the widening moved.
+    far_moved: u64,
     /// Of the last case, if the Rust was run on it.
     end: Option<End>,
 }
@@ -306,6 +327,8 @@ struct Wanted {
     rows_read: bool,
     /// Whether the widening moved a bound, and not out to the rim.
     widened: bool,
+    /// Whether it moved r_2 and c_2.
+    far_moved: bool,
     /// Whether the unchanged file was run, and came to another record by the first edge picture.
     moved: bool,
     /// Whether the columns, and the rows, read otherwise for the added scores.
@@ -321,6 +344,7 @@ impl Cases {
             by_factor: [ByFactor::default(); 4],
             met: Met::new("locating", ROWS)?,
             moved: 0,
+            far_moved: 0,
             end: None,
         })
     }
@@ -346,6 +370,9 @@ impl Cases {
     fn note(&self) -> Result<String, String> {
         if self.moved == 0 {
             return Err("no built case reads otherwise by the first edge picture".into());
+        }
+        if self.far_moved == 0 {
+            return Err("no built case has both r_2 and c_2 moved by the widening".into());
         }
         let mut answers = vec![];
         let mut reads = vec![];
@@ -376,7 +403,7 @@ impl Cases {
 
     /// Counts a screen that was looked at.
     fn ended(&mut self, call: &Call, want: &Wanted) {
-        let Wanted { returns, rows_read, widened, moved, by_added, .. } = *want;
+        let Wanted { returns, rows_read, widened, far_moved, moved, by_added, .. } = *want;
         let Located { answer, narrowed, .. } = want.located;
         self.end = Some(End { answer: Some(answer), returns, narrowed });
         self.answers[answer as usize] += 1;
@@ -415,6 +442,7 @@ impl Cases {
             (8, _) => self.met.count(ROWS_NO_GAP),
             (9, _) => self.met.count(ROWS_FAR),
             _ => {
+                self.far_moved += (far_moved && self.met.built) as u64;
                 self.of(call.factor).read_after[(narrowed as usize).min(3)] += 1;
                 self.met.count(READ);
             }
@@ -553,6 +581,7 @@ impl Cases {
     fn faulty(&mut self, factor: usize, height: usize, width: usize, faults: usize) -> Call {
         let rng = &mut self.rng;
         let mut call = Call::fitting(factor, height, width);
+        call.fill(rng);
         if faults & BAD_FACTOR != 0 {
             // some are 3 in their low bits; four times 2^62 is 0
             let large = [(1 << 8) + 3, (1 << 16) + 3, (1 << 32) + 3, 1 << 62, usize::MAX];
@@ -586,21 +615,8 @@ impl Cases {
         let mut call = Call::fitting(factor, height, width);
         let rng = &mut self.rng;
         if rng.below(2) == 0 {
-            // anything in the other fields, and longer slices
-            call.given = Record {
-                height,
-                width,
-                r_1: rng.next() as usize,
-                c_1: rng.below(100),
-                r_2: rng.next() as usize,
-                c_2: rng.below(100),
-                r0: rng.next() as usize,
-                c0: rng.below(100),
-                r: rng.next() as usize,
-                c: rng.below(100),
-                pixelr: rng.word(),
-                pixelc: 0x7FC0_0001,
-            };
+            // longer slices
+            call.fill(rng);
             for len in &mut call.lengths {
                 *len += rng.below(40);
             }
@@ -709,10 +725,28 @@ fn wanted(pixels: &[u8], call: &Call) -> Result<Wanted, String> {
         [located.votesr, located.votesc] = run.votes();
     }
     let (widened, moved, by_added) = (into_margin(&run), run.moved, run.by_added());
+    let far_moved = far_moved(&run);
     let scores = run.seen.scores.map_or(vec![], |(columns, rows)| [columns, rows].concat());
     let (edges, returns, rows_read) = (run.seen.edges, run.whole, rust.pixelr != 0);
     let planes = run.planes;
-    Ok(Wanted { located, planes, edges, scores, returns, rows_read, widened, moved, by_added })
+    Ok(Wanted {
+        located,
+        planes,
+        edges,
+        scores,
+        returns,
+        rows_read,
+        widened,
+        far_moved,
+        moved,
+        by_added,
+    })
+}
+
+/// Whether the widening moved r_2 and c_2: the far corner is not the one that was scanned.
+fn far_moved(run: &Traced) -> bool {
+    let moved = |k: usize| run.seen.scanned.map(|b| b[k]) != run.seen.widened.map(|b| b[k]);
+    moved(1) && moved(3)
 }
 
 /// Whether the widening moved a bound to a place that is nearly empty. Where there is none it goes to the

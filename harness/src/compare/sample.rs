@@ -82,7 +82,8 @@ pub fn compare(run: &Run) -> Outcome {
     }
     let all: u64 = sampled.iter().sum();
     let fewest = sampled.iter().min().unwrap();
-    let note = format!("; {all} sampled, each size at least {fewest} times; {around}{}", met.note()?);
+    let met = met.note()?;
+    let note = format!("; {all} sampled, each size at least {fewest} times; {around}{met}");
     Ok(Tally { cases: count, note })
 }
 
@@ -91,19 +92,13 @@ const NUMBER: &str = "x, y, r_1, c_1, r0 or c0 above 4,096, size 1 to 24";
 const NUMBER_SIZE_0: &str = "the same at size 0";
 const SIZE: &str = "a size above 24";
 const OFF_BOARD: &str = "a cell that is not on the board, x of r or more or y of c or more";
-const OUTSIDE: &str = "a sampled place is not in the picture";
+const OUTSIDE: &str = "a cell on the board of which a sampled place is not in the picture";
 
 const SIX: &[&str] = &["x", "y", "r_1", "c_1", "r0", "c0"];
 
 /// Of a cell that is not on the board: which number is too large, and what the Rust does.
-const OFF: &[&str] = &[
-    "x, samples",
-    "x, panics",
-    "x, size 0",
-    "y, samples",
-    "y, panics",
-    "y, size 0",
-];
+const OFF: &[&str] =
+    &["x, samples", "x, panics", "x, size 0", "y, samples", "y, panics", "y, size 0"];
 
 /// Rows marked (run).
 const ROWS: &[Row] = &[
@@ -244,8 +239,7 @@ fn near_whole(rng: &mut Rng, cases: &mut Cases, run: &Run) -> Result<(), String>
     Ok(())
 }
 
-/// A board of 22 by 57 that is read as one row of seven cells with the pitch 8.0 across, from column 3 on: at
-/// size 24 the last of them reaches off the picture.
+/// A screen of 22 by 57 whose board is read with cells that reach off the picture.
 fn reaching_out() -> (usize, usize, Vec<u8>) {
     let (height, width) = (22, 57);
     let colours = vec![[38, 121, 86, 158]];
@@ -279,18 +273,19 @@ impl Around {
         if located.answer != 0 {
             return Ok(());
         }
+        let record = located.board();
         self.boards += 1;
         self.narrowed += (located.seen.narrowed > 0) as u64;
-        let record = located.board();
         for x in 0..record.r + 2 {
             for y in 0..record.c + 2 {
                 for size in [rng.pick(&[0, 1, 2, 8]), MOST_SIZE] {
                     let call = Call { record, x, y, size, out: 3 * size * size };
                     cases.one(&call, &located.planes)?;
                     match cases.end {
-                        Some((14, _)) => self.beside += 1,
+                        Some((0, _)) => self.sampled += 1,
                         Some((12, _)) => self.off_picture += 1,
-                        _ => self.sampled += 1,
+                        Some((14, _)) => self.beside += 1,
+                        end => return Err(format!("a cell of a located board ends with {end:?}")),
                     }
                 }
             }
@@ -302,9 +297,7 @@ impl Around {
 fn around_located(rng: &mut Rng, cases: &mut Cases, run: &Run) -> Result<String, String> {
     let mut around = Around::default();
     around.board(rng, cases, OWN_FACTOR, reaching_out())?;
-    if around.off_picture == 0 {
-        return Err("the last cell of the board of 22 by 57 is not off the picture".into());
-    }
+    as_built("a board of one row of seven cells", (1, 1), (around.boards, around.off_picture))?;
     while around.boards < run.choose(60, 2_000) {
         let factor = rng.between(*FACTORS.start(), *FACTORS.end());
         let zoomed = around.boards % 4 == 0;
@@ -346,7 +339,7 @@ fn pitch(rng: &mut Rng) -> f32 {
     }
 }
 
-/// A call that keeps the rules, most of them with the cell inside.
+/// A call that keeps the rules, but that a few cells are not on the board; most are in the picture.
 fn fitting(rng: &mut Rng, height: usize, width: usize) -> Call {
     let (pixelr, pixelc) = (pitch(rng), pitch(rng));
     let mut along = |side: usize, pitch: f32| {
