@@ -47,8 +47,9 @@ extern "C" {
 #define FOLGUTAN_MOST_SCORE 4096
 
 /* Limits of sampling: both pitches, the numbers of a cell, the record's corner
- * and offsets, the size of a sampled cell, and how many values it has (02, R-2): an output
- * of FOLGUTAN_MOST_CELL_VALUES entries, 1728, is never too short. */
+ * and offsets, the size of a sampled cell, and how many values it has (02,
+ * R-2): an output of FOLGUTAN_MOST_CELL_VALUES entries, 1728, is never too
+ * short. */
 #define FOLGUTAN_LEAST_PITCH 8.0f
 #define FOLGUTAN_MOST_PITCH 200.0f
 #define FOLGUTAN_MOST_NUMBER 4096
@@ -77,7 +78,8 @@ extern "C" {
 #define FOLGUTAN_NO_GAP FOLGUTAN_COLUMNS_NO_GAP
 #define FOLGUTAN_TOO_FAR FOLGUTAN_COLUMNS_TOO_FAR
 
-/* The board record (01, Load; 02, R-5). It is passed and handed back by value. */
+/* The board record (01, Load; 02, R-5). It is passed and handed back by
+ * value. */
 typedef struct {
     size_t height, width;  /* sides of the picture in the planes, in pixels */
     size_t r_1, c_1;       /* the corner: top row and left column of the board */

@@ -744,8 +744,8 @@ static int barred(screen s, size_t x)
     return 2 * covered > s.times;
 }
 
-/* Each cell is sampled in the middle, by the record and the planes as locating hands them back, and no cell
- * beside the board. */
+/* Each cell is sampled in the middle, by the record and the planes as locating hands them back, and no
+ * cell beside the board. */
 static void cells_sampled(const char *where, screen s, folgutan_board b, const float *planes)
 {
     size_t right = 0, beside = 0;
@@ -850,7 +850,7 @@ static void framed_board(struct framed f, size_t factor)
 void test_locate(void)
 {
     refusals();
-    /* from the first row and column of the edge picture to the last: the largest far corner there is */
+    /* over all of the edge picture: the largest far corner there is */
     read_board("locate of a board, narrowed, over all of the picture",
                (screen){{70, 70, 2, 1, 13, 11, 1}, 3}, 3, (bounds){0, 67, 0, 67});
     for (size_t at = 0; at < COUNT(halves); at++)

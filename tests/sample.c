@@ -77,8 +77,8 @@ static void sample_case(const char *name, call c, uint32_t answer)
     free(out.whole);
 }
 
-/* A call that is done: cell (1, 2) of a board of 4 by 3 cells with pitch 10.0 and 9.25 on a screen of 64 by
- * 60. The far corner is anything. */
+/* A call that is done: cell (1, 2) of a board of 4 by 3 cells with pitch 10.0 and 9.25 on a screen of
+ * 64 by 60. The far corner is anything. */
 static call fitting(void)
 {
     call c = {
@@ -90,8 +90,8 @@ static call fitting(void)
     return c;
 }
 
-/* 01, Ruler cases: corner 0, offset 3, pitch 10.0, x = 0, size 2: rows 5 and 10; r and c are 1, and x = 1 or
- * y = 1 is not on the board (02, R-5). */
+/* 01, Ruler cases: corner 0, offset 3, pitch 10.0, x = 0, size 2: rows 5 and 10; r and c are 1, and
+ * x = 1 or y = 1 is not on the board (02, R-5). */
 static void worked_case(void)
 {
     folgutan_board board = {.height = 12, .width = 12, .r0 = 3, .c0 = 3, .r = 1, .c = 1,
@@ -130,8 +130,8 @@ static size_t *cell_of(call *c, size_t axis)
     return axis == 0 ? &c->x : &c->y;
 }
 
-/* The last cell on the board and the first that is not, by each axis, and by both; what is looked at before
- * and after. */
+/* The last cell on the board and the first that is not, along each axis; what is looked at before and
+ * after; which fields are. */
 static void sample_on_board(void)
 {
     for (size_t axis = 0; axis < 2; axis++) {
@@ -192,7 +192,8 @@ static void sample_on_board(void)
             c.board.c = 2;
             c.x = x;
             c.y = y;
-            sample_case("a cell of 3 by 2", c, x < 3 && y < 2 ? FOLGUTAN_DONE : FOLGUTAN_NOT_ON_BOARD);
+            sample_case("a cell of 3 by 2", c,
+                        x < 3 && y < 2 ? FOLGUTAN_DONE : FOLGUTAN_NOT_ON_BOARD);
         }
     /* 20 by 20, pitches 8.0, one cell */
     call c = fitting();

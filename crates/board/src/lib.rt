@@ -1,6 +1,6 @@
-// The board record (02, R-5, adds its far corner), its limits and its planes (01, Load), the limits of the factor (02, R-1), and the
-// answers 1, 3 and 4 to planes that are not fit. Definitions: specs/Board, specs/Planes, specs/Screen. Laws for callers: proofs/Sides, proofs/Planes (what an answer of 0
-// shows), proofs/Units.
+// The board record (01, Load; 02, R-5), its limits and its planes, the limits of the factor (02, R-1), and the answers 1, 3 and 4 to planes
+// that are not fit. Definitions: specs/Board, specs/Planes, specs/Screen. Laws for callers: proofs/Sides, proofs/Planes (what an answer of
+// 0 shows), proofs/Units.
 ghost use mathlib.Core.Path.{_≡_};
 ghost use mathlib.Core.Bool.{not};
 ghost use Prim.Native.Nat.{_^_, _≤_};
