@@ -1,6 +1,6 @@
-// Sampling a cell of the board (01, "Cell sampling", and 02, R-2 and R-5). A call refuses with 1, 3, 4, 10, 11, 14, 3 and 12, in that order,
-// before it writes. Definitions: specs/Sample; specs/Inner is for the inner functions. Laws for callers: proofs/Laws (the room that a cell
-// takes).
+// Sampling a cell of the board (01, "Cell sampling", and 02, R-2 and R-5). A call refuses with 1, 3, 4, 10, 11, 14, 3 and 12, in that
+// order, before it writes. Definitions: specs/Sample; specs/Inner is for the inner functions. Laws for callers: proofs/Laws (the room that
+// a cell takes).
 ghost use mathlib.Core.Path.{_≡_};
 ghost use Prim.Native.Nat.{ℕ, _+_, _*_, _≤_, _<_};
 ghost use lib.ListN.{length, getD};

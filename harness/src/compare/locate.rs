@@ -1,8 +1,8 @@
-//! Locating beside `get_pos_pixel`, with each factor: every field, the far corner by its widened bounds, the
-//! planes, the edge picture of the last picture and both score lists. All comes from the probed copy, which
-//! narrows by the factor, goes on with that picture and scores column c_2 - 2 and row r_2 - 2 too; with the factor of the unchanged file
-//! this is run too, and must do the same on every screen that gets too small, and on the others what the
-//! first edge picture gives without the two added scores.
+//! Locating beside `get_pos_pixel`, with each factor: every field, the far corner by its widened bounds,
+//! the planes, the edge picture of the last picture and both score lists. All comes from the probed copy,
+//! which narrows by the factor, goes on with that picture and scores column c_2 - 2 and row r_2 - 2 too;
+//! with the factor of the unchanged file this is run too, and must do the same on every screen that gets
+//! too small, and on the others what the first edge picture gives without the two added scores.
 
 use super::built::{Built, End, CORNERS, DEPARTURES, LARGE, ONE_MORE, READ_NARROWED};
 use super::lent::Lent;
@@ -615,7 +615,7 @@ impl Cases {
         let mut call = Call::fitting(factor, height, width);
         let rng = &mut self.rng;
         if rng.below(2) == 0 {
-            // longer slices
+            // anything in the other fields, and longer slices
             call.fill(rng);
             for len in &mut call.lengths {
                 *len += rng.below(40);

@@ -297,7 +297,7 @@ impl Around {
 fn around_located(rng: &mut Rng, cases: &mut Cases, run: &Run) -> Result<String, String> {
     let mut around = Around::default();
     around.board(rng, cases, OWN_FACTOR, reaching_out())?;
-    as_built("a board of one row of seven cells", (1, 1), (around.boards, around.off_picture))?;
+    as_built("the screen of 22 by 57", (1, 1), (around.boards, around.off_picture))?;
     while around.boards < run.choose(60, 2_000) {
         let factor = rng.between(*FACTORS.start(), *FACTORS.end());
         let zoomed = around.boards % 4 == 0;
