@@ -1,6 +1,8 @@
 // Both axes of an edge picture over some bounds: column scores, then row scores, in one slice (01, "Path scores"; 02, R-4), and
 // what each list reads as (01, "Lines and votes"). Definitions: strips' column_scores and row_scores, reading's
 // quarters_of; specs/Inner is for the code. Laws for callers: proofs/Scoring.
+#![tactic(auto)]
+
 ghost use Rattle.std.specs.Prelude.{◌++◌, ◌+◌, ◌-◌, ◌*◌, ◌≤◌, length};
 ghost use Rattle.lists.specs.Front.{AtFront};
 ghost use Rattle.lists.specs.Picture.{points};
@@ -12,7 +14,7 @@ use board::Bounds;
 use reading::Quarters;
 
 // What the columns and the rows read as.
-#[derive(Drop)]
+#[derive(Clone, Copy)]
 pub struct Readings {
     pub columns: Quarters,
     pub rows: Quarters,

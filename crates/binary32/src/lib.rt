@@ -6,6 +6,8 @@
 // proofs/Plain: the same for a comparison with a value given by its bits.
 // proofs/Units: the smaller and the larger of two units by their bits.
 // proofs/Share: a share of m, cut to a whole number, is below m.
+#![tactic(auto)]
+
 ghost use Rattle.std.specs.Prelude.{◌≡◌, not, T, is_nan};
 ghost use Rattle.binary32.specs.Binary32 as Spec;
 ghost use Rattle.binary32.specs.Inner as Inner;

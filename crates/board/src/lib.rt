@@ -1,6 +1,8 @@
 // The board record (01, Load; 02, R-5), its limits and its planes, the limits of the factor (02, R-1), and the answers 1, 3 and 4 to planes
 // that are not fit. Definitions: specs/Board, specs/Planes, specs/Screen. Laws for callers: proofs/Sides, proofs/Planes (what an answer of
 // 0 shows), proofs/Units.
+#![tactic(auto)]
+
 ghost use Rattle.std.specs.Prelude.{◌≡◌, not, ◌^◌, ◌≤◌, length, take};
 ghost use Rattle.lists.specs.Picture.{bit};
 ghost use Rattle.binary32.specs.Binary32.{unit};
@@ -13,7 +15,7 @@ ghost use Rattle.board.specs.Screen.{channel_of};
 // The board: its sides, its corner and its far corner, the offsets from the corner at which the grid of cells begins, its counts of rows
 // and columns, and its pitches.
 #[repr(C)]
-#[derive(Drop)]
+#[derive(Clone, Copy)]
 pub struct Board {
     pub height: usize,
     pub width: usize,
@@ -30,7 +32,7 @@ pub struct Board {
 }
 
 // Rows r_1 to r_2 and columns c_1 to c_2 of a picture.
-#[derive(Drop)]
+#[derive(Clone, Copy)]
 pub struct Bounds {
     pub r_1: usize,
     pub r_2: usize,
@@ -39,7 +41,7 @@ pub struct Bounds {
 }
 
 // The cells along one axis: the offset from the corner at which their grid begins, how many there are, and their pitch.
-#[derive(Drop)]
+#[derive(Clone, Copy)]
 pub struct Spacing {
     pub offset: usize,
     pub count: usize,
@@ -67,10 +69,8 @@ impl Board {
     // stated here: a constant has no contract of its own.
     pub fn fresh(height: usize, width: usize) -> Self
         ensures value { result ≡ Spec.fresh height width }
-        ensures* limits { do
-          ⌜ LimitsAre (← (⟦Board::LEAST_SIDE⟧).entry) (← (⟦Board::LEAST_PLANE_SIDE⟧).entry)
-              (← (⟦Board::MOST_SIDE⟧).entry) (← (⟦Board::MOST_SIZE⟧).entry) ⌝ }
-        ensures* factors { do ⌜ FactorsAre (← (⟦Board::LEAST_FACTOR⟧).entry) (← (⟦Board::MOST_FACTOR⟧).entry) ⌝ }
+        ensures limits { LimitsAre Self.LEAST_SIDE Self.LEAST_PLANE_SIDE Self.MOST_SIDE Self.MOST_SIZE }
+        ensures factors { FactorsAre Self.LEAST_FACTOR Self.MOST_FACTOR }
     {
         Board {
             height: height,

@@ -2,6 +2,8 @@
 // The scan looks at few points, and whether a picture is the last one is known only after it (02, R-3): it takes the gradients and the
 // threshold, so that no edge picture has to be made for it. Definitions: specs/Scan, specs/Widen, specs/Bounds; of the edge bytes:
 // specs/Inner. Laws for callers: proofs/Laws.
+#![tactic(auto)]
+
 ghost use Rattle.std.specs.Prelude.{◌≡◌, ◌*◌, ◌≤◌, ◌<◌, leb, length};
 ghost use Rattle.lists.specs.Picture.{points};
 ghost use Rattle.bounds.specs.Bounds as Spec;
@@ -14,21 +16,21 @@ ghost use Rattle.bounds.specs.Widen.{second, pair, sum_at, lowered, widened};
 use board::Bounds;
 
 // The way that a scan goes: towards place 0, or towards the last place.
-#[derive(Drop)]
+#[derive(Clone, Copy)]
 pub enum Way {
     Near,
     Far,
 }
 
 // How a scan goes on: it stops, or goes to a distance and a place across.
-#[derive(Drop)]
+#[derive(Clone, Copy)]
 enum Move {
     Stop,
     To(usize, usize),
 }
 
 // The second point of a sum of the widening: the next one along the way, or the one before it across.
-#[derive(Drop)]
+#[derive(Clone, Copy)]
 enum Beside {
     Along,
     Across,
@@ -36,7 +38,7 @@ enum Beside {
 
 // A picture in the edge bytes, seen along one way: `across` rows and `along` columns, with the point in row p and column q at
 // p * down + q * right.
-#[derive(Drop)]
+#[derive(Clone, Copy)]
 struct View {
     way: Way,
     across: usize,

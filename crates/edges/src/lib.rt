@@ -1,5 +1,7 @@
 // Threshold and edge bytes of a list of gradients (01, "Gradient and threshold", second paragraph).
 // Definitions: specs/Edges; specs/Inner has those of the search for the threshold by counting. Laws for callers: proofs/Laws.
+#![tactic(auto)]
+
 ghost use Rattle.std.specs.Prelude.{◌≡◌, ◌+◌, ◌-◌, ◌*◌, ◌^◌, ◌≤◌, ◌<◌, length, get_or};
 ghost use Rattle.std.specs.Float.{nan, binary32};
 ghost use Rattle.std.specs.Float.Ieee.{le, to_bits};
@@ -108,7 +110,7 @@ fn count_part(every: usize, parts: usize, row: usize, column: usize, g: &[f32], 
 }
 
 // A range of bits.
-#[derive(Drop)]
+#[derive(Clone, Copy)]
 struct Range {
     lo: u32,
     hi: u32,
@@ -155,7 +157,7 @@ fn less(a: u32, b: u32) -> u32
 // What the counts told, to choose the place of the next one; only the time depends on it. How many values of the sample, and of the part,
 // are below the range and up to its end (at first 0 and all); how many guesses are left; how far from an end to count without a guess; and
 // whether the last count kept the lower side.
-#[derive(Drop)]
+#[derive(Clone, Copy)]
 struct Seen {
     below: u32,
     upto: u32,

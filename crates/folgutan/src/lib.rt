@@ -1,5 +1,7 @@
 // The C interface: include/folgutan.h documents it. Each function carries the contract of the one that it wraps; a reading
 // crosses as a struct, `reading::Line`. It asks nothing of its caller beyond valid slices that do not overlap.
+#![tactic(auto)]
+
 ghost use Rattle.load.specs.Load.{most_byte, LoadGives};
 ghost use Rattle.gradient.specs.Gradient.{GradientGives};
 ghost use Rattle.reading.specs.Reading.{LineGives};

@@ -1,4 +1,6 @@
 // Inner steps for tests and benchmarks alone: in no header. What a function requires, its caller makes sure of.
+#![tactic(auto)]
+
 ghost use Rattle.std.specs.Prelude.{◌+◌, ◌-◌, ◌*◌, take, drop, ◌≡◌, not, ◌≤◌, ◌^◌, T, length};
 ghost use Rattle.lists.specs.Picture.{points};
 ghost use Rattle.board.specs.Board.{least_plane_side};
@@ -25,7 +27,7 @@ use board::{Board, Bounds};
 
 // The bounds as C has them.
 #[repr(C)]
-#[derive(Drop)]
+#[derive(Clone, Copy)]
 pub struct Corners {
     pub r_1: usize,
     pub r_2: usize,

@@ -1,5 +1,7 @@
 // Gradient of three planes: the largest of six magnitudes at each point (01, "Gradient and threshold"). The call refuses 1, 3 and 4.
 // Definitions: specs/Gradient. Laws for callers: proofs/Laws.
+#![tactic(auto)]
+
 ghost use Rattle.std.specs.Prelude.{◌≡◌, true, false, ◌+◌, ◌-◌, ◌*◌, ◌≤◌, ◌<◌, ltb, length, take};
 ghost use Rattle.lists.specs.Front.{AtFront};
 ghost use Rattle.binary32.specs.Binary32.{magnitude};

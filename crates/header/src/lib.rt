@@ -2,6 +2,8 @@
 // 11 and 1. Definitions: specs/Header. Laws for callers:
 // proofs/Sides: what sides and places the two lines give.
 // proofs/Cut: the two lines are found in the front of the input.
+#![tactic(auto)]
+
 ghost use Rattle.std.specs.Prelude.{◌≡◌, ◌+◌, ◌-◌, ◌≤◌, get_or, drop};
 ghost use Rattle.header.specs.Header.{begins, is_digit, digits_end, four_at_most, value_at};
 ghost use Rattle.header.specs.Header.{shown_side, sized, numbers_at, header_of};
@@ -17,7 +19,7 @@ pub const FIRST_LINE: usize = 13;
 pub const SECOND_LINE: usize = 10;
 
 // The sides and where the pixels begin, or the number of the refusal.
-#[derive(Drop)]
+#[derive(Clone, Copy)]
 pub enum Input {
     Sides {
         height: usize,

@@ -95,7 +95,10 @@ pub least_cost_same : (set other : ℕ → ℕ → Bool) (k n : ℕ) → ((t j :
     (j : ℕ) → j ≤ 4 → least_cost set k n j ≡ least_cost other k n j
 least_cost_same set other k zero h j l = refl
 least_cost_same set other k (suc n) h j l =
-    onward_same _ _ (λ i m. rw (least_cost_same set other k n (λ t f a b. h t f (omega arith) b) i m, h (suc n) i (omega arith) m)) j l
+    onward_same
+    (λ i. least_cost set k n i + bit (not (set (suc n) i)))
+    (λ i. least_cost other k n i + bit (not (other (suc n) i)))
+    (λ i m. rw (least_cost_same set other k n (λ t f a b. h t f (omega arith) b) i m, h (suc n) i (omega arith) m)) j l
 
 -- a walk, and one step more to lane j
 module _ {n : ℕ} (w : Walk n) (j : ℕ) where

@@ -2,6 +2,8 @@
 // specs/Inner is for the code.
 // Laws for callers: proofs/Walks (a score is that of the best walk), proofs/States (one row more, and the target lane at the end).
 // A lane's state is 5 and the steps so far, less the least cost: a set point adds 1, a sideways move takes 1 off, and none falls below 1.
+#![tactic(auto)]
+
 ghost use Rattle.std.specs.Prelude.{◌≡◌, Bool, ℕ, ◌≤◌, ◌<◌, ◌+◌, ◌*◌, ◌-◌, max, length, get_or};
 ghost use Rattle.lists.specs.Tab.{tab};
 ghost use Rattle.lists.specs.Picture.{points};
@@ -10,7 +12,7 @@ ghost use Rattle.lanes.specs.Score.{at, onward, score};
 ghost use Rattle.lanes.specs.Inner.{Marks, LanesHold, Below, unset, Pointed, Advanced, lanes_of, Stored, Swept, swept_scores};
 
 // Lanes 0 to 4 of one strip.
-#[derive(Drop)]
+#[derive(Clone, Copy)]
 pub struct Lanes {
     pub a: u16,
     pub b: u16,

@@ -1,5 +1,7 @@
 // The lines of a list of scores, and the estimate e of their gap (01, "Lines and votes", first paragraph). Definitions: specs/Lines.
 // Laws for callers: proofs/Laws (the lines rise, two remain after the drops, e is above 5 and at most their extent).
+#![tactic(auto)]
+
 ghost use Rattle.std.specs.Prelude.{◌≡◌, ◌||◌, ◌+◌, ◌-◌, ◌≤◌, ◌<◌, min, max, eqb, length, get_or, take, drop};
 ghost use Rattle.lists.specs.Front.{AtFront};
 ghost use Rattle.lines.specs.Lines.{largest, entries_before, entries_behind, smoothed, smooth, stands_out, is_line, lines_of};
@@ -254,7 +256,7 @@ fn last_kept(lines: &[u32], e: u32) -> usize
 }
 
 // The lines that remain are those from `from` up to `end`.
-#[derive(Drop)]
+#[derive(Clone, Copy)]
 pub struct KeptRange {
     pub from: usize,
     pub end: usize,

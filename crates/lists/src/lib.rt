@@ -7,6 +7,8 @@
 // proofs/Part: a part of a list, and a part that is lent.
 // proofs/Grid: a grid row by row, and the row and the column of a place.
 // proofs/Picture: a point as a number, and the flipped picture.
+#![tactic(auto)]
+
 ghost use Rattle.std.specs.Prelude.{◌≡◌, [], ◌∷◌, ◌^◌, ◌≤◌, leb, eqb, length, take, replicate};
 ghost use Rattle.std.specs.Float.{binary32};
 ghost use Rattle.std.specs.Float.Ieee.{of_bits};

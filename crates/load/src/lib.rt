@@ -1,5 +1,7 @@
 // Loading: pixels of four bytes become three planes (01, "Load"). It refuses with 1, 2 and 3. Definitions: specs/Load.
 // Laws for callers: proofs/Laws (what is loaded is fit).
+#![tactic(auto)]
+
 ghost use Rattle.std.specs.Prelude.{◌≡◌, ◌+◌, ◌*◌, ◌≤◌, ◌<◌, length};
 ghost use Rattle.lists.specs.Front.{AtFront};
 ghost use Rattle.board.specs.Screen.{packed};
@@ -11,7 +13,7 @@ use board::Board;
 
 // A record and the answer: 0, or the number of the refusal.
 #[repr(C)]
-#[derive(Drop)]
+#[derive(Clone, Copy)]
 pub struct Loaded {
     pub board: Board,
     pub answer: u32,

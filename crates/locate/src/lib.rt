@@ -3,6 +3,8 @@
 // back and leaves), specs/Promise (on the same edge picture no walk and no vote beats what it hands back), specs/Corners
 // (where both corners of its record lie). The loop of narrowings is crate narrowings, the scores and their readings crate
 // axes.
+#![tactic(auto)]
+
 ghost use Rattle.std.specs.Prelude.{◌≡◌, false, [], ◌-◌, ◌*◌, ◌≤◌, length, take};
 ghost use Rattle.board.specs.Board.{least_located, sides_outside};
 ghost use Rattle.board.specs.Inner.{FactorIn, FitPlanes};
@@ -19,7 +21,7 @@ use reading::Quarters;
 
 // A record and the answer, both pitches in quarters, both counts of votes, and how often the screen was narrowed.
 #[repr(C)]
-#[derive(Drop)]
+#[derive(Clone, Copy)]
 pub struct Located {
     pub board: Board,
     pub answer: u32,
@@ -31,7 +33,7 @@ pub struct Located {
 }
 
 // An accepted reading of one axis.
-#[derive(Drop)]
+#[derive(Clone, Copy)]
 struct AxisReading {
     quarter: usize,
     offset: usize,

@@ -1,6 +1,8 @@
 // The printed map of a board (02, R-6): two lines with its counts, then a line of marks for each board row. A call refuses with 1, 3, 4,
 // 10, 11, 15, 11 and 3, in that order, before it writes. Definitions: specs/Map; specs/Inner is for the inner functions. Laws for
 // callers: proofs/Laws (marks, levels, what a mark shows, and the room that a map takes).
+#![tactic(auto)]
+
 ghost use Rattle.std.specs.Prelude.{◌≡◌, true, List, ℕ, ◌+◌, ◌-◌, ◌*◌, ◌≤◌, ◌<◌, Float, length, get_or};
 ghost use Rattle.binary32.specs.Binary32.{unit};
 ghost use Rattle.lists.specs.Front.{AtFront};
@@ -18,7 +20,7 @@ use board::Board;
 
 // What printing hands back: the length is 0 unless the answer is 0.
 #[repr(C)]
-#[derive(Drop)]
+#[derive(Clone, Copy)]
 pub struct Printed {
     pub answer: u32,
     pub length: usize,

@@ -2,6 +2,8 @@
 // Definitions: specs/Narrow; specs/Inner is for the inner functions. Laws for callers: proofs/Laws. It asks for planes that are fit, of
 // any sides up to the largest: the order of units is that of their bits, so that it can pick by comparison. The blocks of several
 // points of a row are picked from at once, a list each (crate select).
+#![tactic(auto)]
+
 ghost use Rattle.std.specs.Prelude.{◌≡◌, min, ◌+◌, ◌*◌, ◌/◌, ◌<◌, ◌≤◌, length, drop, replicate};
 ghost use Rattle.std.specs.Float.{binary32};
 ghost use Rattle.std.specs.Float.Ieee.{of_bits};

@@ -1,5 +1,7 @@
 // The loop of narrowings (01, "Locating", first paragraph; 02, R-1 and R-3): a screen is narrowed until both spans of its bounds are
 // large enough, or until it is too small. Definitions: specs/Loop. Laws for callers: proofs/Turns.
+#![tactic(auto)]
+
 ghost use Rattle.std.specs.Prelude.{◌≡◌, ◌*◌, ◌≤◌, length};
 ghost use Rattle.lists.specs.Front.{AtFront};
 ghost use Rattle.board.specs.Board.{least_plane_side, least_located};
@@ -36,7 +38,7 @@ fn small(height: usize, width: usize) -> bool
 }
 
 // What a look at a screen finds: its threshold, and the bounds of its edge picture.
-#[derive(Drop)]
+#[derive(Clone, Copy)]
 struct Seen {
     threshold: f32,
     bounds: Bounds,
@@ -62,7 +64,7 @@ fn look(height: usize, width: usize, planes: &[f32], scratch: &mut [f32]) -> See
 
 // Where the loop ends: the sides of the last picture, how often the screen was narrowed, whether it got too small, and that picture's
 // threshold and bounds.
-#[derive(Drop)]
+#[derive(Clone, Copy)]
 pub struct Narrowed {
     pub height: usize,
     pub width: usize,

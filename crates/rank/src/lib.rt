@@ -1,5 +1,7 @@
 // Entry j of a list sorted rising, found by counting: no sort, no copy. Definitions: specs/Rank.
 // Laws for callers: proofs/Entry, proofs/Members, proofs/Counts.
+#![tactic(auto)]
+
 ghost use Rattle.std.specs.Prelude.{◌≡◌, ◌≤◌, ◌^◌, length};
 ghost use Rattle.rank.specs.Rank.{self, entry};
 ghost use Rattle.rank.specs.Inner.{count_at_most};

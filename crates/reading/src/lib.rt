@@ -1,13 +1,15 @@
 // What a list of scores reads as (01, "Lines and votes"; refusals: "How each operation declines"). Definitions: specs/Reading;
 // specs/Inner has those of the code alone.
 // Laws for callers: proofs/Laws (an accepted reading has the winner of the remaining lines, and its pitch is at most 200).
+#![tactic(auto)]
+
 ghost use Rattle.std.specs.Prelude.{◌≡◌, ℕ, ◌+◌, ◌-◌, ◌*◌, ◌≤◌, ◌<◌, length, get_or};
 ghost use Rattle.lines.specs.Inner.{InLimits};
 ghost use Rattle.reading.specs.Reading.{pitch_of, count_of, accepted, quarters_of, pitched, line_answer, reading_of, line_of, LineGives};
 ghost use Rattle.reading.specs.Inner.{Readable, RemainingGives, Pitched};
 
 // A pitch with an offset, a count and the votes, or a refusal.
-#[derive(Drop)]
+#[derive(Clone, Copy)]
 pub enum Reading {
     Read {
         pitch: f32,
@@ -20,7 +22,7 @@ pub enum Reading {
 
 // A reading as number and values, as C has it: zeros unless the answer is 0.
 #[repr(C)]
-#[derive(Drop)]
+#[derive(Clone, Copy)]
 pub struct Line {
     pub answer: u32,
     pub pitch: f32,
@@ -30,7 +32,7 @@ pub struct Line {
 }
 
 // The reading with the pitch in quarters.
-#[derive(Drop)]
+#[derive(Clone, Copy)]
 pub enum Quarters {
     Read {
         quarter: usize,
@@ -42,7 +44,7 @@ pub enum Quarters {
 }
 
 // What is searched: the lines that remain, as a part of the array that was lent for them, and e. Or a refusal.
-#[derive(Drop)]
+#[derive(Clone, Copy)]
 pub enum Remaining {
     Lines { from: usize, end: usize, e: u32 },
     Refused(u32),

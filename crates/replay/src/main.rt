@@ -1,5 +1,7 @@
 // Replays a fixed list of the Rust's answers: what it prints is held to the file stdout, which the Rust made (scripts/answers load).
 // The planes are handed out channel by channel.
+#![tactic(auto)]
+
 use libc::STDOUT_FILENO;
 
 // A number in a line of its own.

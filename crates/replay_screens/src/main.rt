@@ -2,6 +2,8 @@
 // first, then the pixels. A line for each factor has the answer, the record and values of the planes that are left; what is printed
 // is held to the file stdout, which has the Rust's, changed as 02 says (scripts/answers locate), and 01's number where it does not read.
 // The screens are too small to be read after a narrowing by 4 or 5: with these what is narrowed answers 5.
+#![tactic(auto)]
+
 ghost use Rattle.std.specs.Prelude.{◌<◌};
 
 use board::Board;

@@ -1,6 +1,8 @@
 // What the screen program prints for the bytes that it read (01, "Screen program"): the screen is loaded and located, and its values are
 // written in two lines. It answers 11, 1, 2 and locating's. Definitions: specs/Values (the values and the two lines), specs/Answer (which
 // values for which bytes).
+#![tactic(auto)]
+
 ghost use Rattle.std.specs.Prelude.{◌≡◌, List, ℕ, ◌≤◌, length, take};
 ghost use Rattle.lists.specs.Front.{AtFront};
 ghost use Rattle.board.specs.Board.{least_side};

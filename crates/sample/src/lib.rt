@@ -1,6 +1,8 @@
 // Sampling a cell of the board (01, "Cell sampling", and 02, R-2 and R-5). A call refuses with 1, 3, 4, 10, 11, 14, 3 and 12, in that
 // order, before it writes. Definitions: specs/Sample; specs/Inner is for the inner functions. Laws for callers: proofs/Laws (the room that
 // a cell takes).
+#![tactic(auto)]
+
 ghost use Rattle.std.specs.Prelude.{◌≡◌, ℕ, ◌+◌, ◌*◌, ◌≤◌, ◌<◌, length, get_or};
 ghost use Rattle.lists.specs.Front.{AtFront};
 ghost use Rattle.lists.specs.Inner.{Placed};

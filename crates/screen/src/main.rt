@@ -1,4 +1,6 @@
 // The screen program (01, "Screen program"): reads the sides and the pixels of a screen, and prints what crate reply writes for them.
+#![tactic(auto)]
+
 use libc::{STDIN_FILENO, STDOUT_FILENO};
 use reply::{ROOM, TEXT_ROOM};
 

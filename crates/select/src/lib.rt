@@ -1,6 +1,8 @@
 // The medians of several lists of units side by side, by comparisons alone: a pass drops a smallest and a largest value of a window,
 // which is wide enough that neither can be the median, and takes in one value more. No step depends on the values, so the compiler
 // works on all lists at once. Definitions: specs/Inner. The law: proofs/Passes.
+#![tactic(auto)]
+
 ghost use Rattle.std.specs.Prelude.{◌≡◌, ℕ, ◌+◌, ◌*◌, ◌<◌, ◌≤◌, length};
 ghost use Rattle.lists.specs.Inner.{Placed};
 ghost use Rattle.lists.specs.Tab.{tab};

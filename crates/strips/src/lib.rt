@@ -1,5 +1,7 @@
 // Column and row scores (01, "Path scores"; 02, R-4). Their promises rest on specs/Strip; walking strips down is the crate
 // lanes. Laws for callers: proofs/Scores, and that each column has one score, in order: proofs/Columns.
+#![tactic(auto)]
+
 ghost use Rattle.std.specs.Prelude.{◌≡◌, ◌≤◌, ◌<◌, ◌+◌, ◌*◌, ◌-◌, length};
 ghost use Rattle.lists.specs.Front.{AtFront};
 ghost use Rattle.lists.specs.Picture.{points};

@@ -3,6 +3,8 @@
 // number. Definitions: specs/Text. Laws for callers:
 // proofs/Decimal: how many digits a number has, and how long a line of numbers is.
 // proofs/Writing: texts one after another.
+#![tactic(auto)]
+
 ghost use Rattle.std.specs.Prelude.{◌≡◌, [], ◌∷◌, ◌+◌, ◌%◌, ◌≤◌, ◌<◌, length, replicate};
 ghost use Rattle.text.specs.Text.{decimal, numbers_line};
 ghost use Rattle.text.specs.Inner.{Puts};

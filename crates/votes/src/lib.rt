@@ -1,11 +1,13 @@
 // Of all offsets and quarters in the searched range the one with most votes (01, "Lines and votes"). Definitions: specs/Votes.
 // A row holds the votes of all offsets with one q. Laws for callers: proofs/Laws (the winner by itself).
+#![tactic(auto)]
+
 ghost use Rattle.std.specs.Prelude.{◌≡◌, ℕ, ◌+◌, ◌-◌, ◌*◌, ◌^◌, ◌≤◌, ◌<◌, length, get_or};
 ghost use Rattle.votes.specs.Votes.{max_pitch, min_pitch, votes_of_line, votes, winner};
 ghost use Rattle.votes.specs.Inner.{hit, Added, Block, Picks};
 
 // An offset with a pitch in quarters, and the votes that the pair gets.
-#[derive(Drop)]
+#[derive(Clone, Copy)]
 pub struct Choice {
     pub votes: usize,
     pub offset: usize,

@@ -17,106 +17,100 @@ use Rattle.axes.proofs.read_axes.Statement.{statement}
 use Rattle.axes.proofs.read_axes.Tie as tie
 
 -- after both counts: what was handed in, and the slice with both lists at its front
-abbrev at-scores : tie.After-place-count2 → tie.After-score-all
-at-scores c = c.before.before.before.before.before.before
+abbrev bounds : tie.After-place_count → Bounds
+bounds c = c.args.b
 
-abbrev at-start : tie.After-place-count2 → tie.Start
-at-start c = (at-scores c).before.before.before.before.before.before.before
+abbrev E : tie.After-place_count → ℕ → ℕ → Bool
+E c = points c.args.stride 1 c.args.edges.now
 
-abbrev bounds : tie.After-place-count2 → Bounds
-bounds c = (at-start c).args.b
+abbrev slice : tie.After-place_count → List ℕ
+slice c = c.score_all.new.scores
 
-abbrev E : tie.After-place-count2 → ℕ → ℕ → Bool
-E c = points (at-start c).args.stride 1 (at-start c).args.edges.now
+lists : (c : tie.After-place_count)
+    → AtFront (column_scores (E c) (bounds c) ++ row_scores (E c) (bounds c)) c.args.scores.now (slice c)
+lists c = c.score_all.ensures
 
-abbrev slice : tie.After-place-count2 → List ℕ
-slice c = (at-scores c).score-all.new.1.1.1.1.0
-
-lists : (c : tie.After-place-count2)
-    → AtFront (column_scores (E c) (bounds c) ++ row_scores (E c) (bounds c)) (at-start c).args.scores.now (slice c)
-lists c = (at-scores c).score-all.ensures
-
-scorable : (c : tie.After-place-count2) → Scorable (at-start c).args.edges.now (at-start c).args.stride (bounds c)
-scorable c = (at-start c).requires.0
+scorable : (c : tie.After-place_count) → Scorable c.args.edges.now c.args.stride (bounds c)
+scorable c = c.requires.0
 
 -- the two parts, by the numbers that were counted
-columns_are : (c : tie.After-place-count2) → take c.before.place_count_lem.result (slice c) ≡ column_scores (E c) (bounds c)
-columns_are c = across_part (E c) (bounds c) (lists c) c.before.place_count_lem.ensures c.place-count2.ensures
+columns_are : (c : tie.After-place_count) → take c.place_count-across.result (slice c) ≡ column_scores (E c) (bounds c)
+columns_are c = across_part (E c) (bounds c) (lists c) c.place_count-across.ensures c.place_count.ensures
 
-rows_are : (c : tie.After-place-count2)
-    → let n = c.before.place_count_lem.result in
-    take (n + c.place-count2.result - n) (drop n (slice c)) ≡ row_scores (E c) (bounds c)
-rows_are c = down_part (E c) (bounds c) (lists c) c.before.place_count_lem.ensures c.place-count2.ensures
+rows_are : (c : tie.After-place_count)
+    → let n = c.place_count-across.result in
+    take (n + c.place_count.result - n) (drop n (slice c)) ≡ row_scores (E c) (bounds c)
+rows_are c = down_part (E c) (bounds c) (lists c) c.place_count-across.ensures c.place_count.ensures
 
-score-all-requires : tie.Need-score-all-requires
+score-all-requires : tie.Need-score_all-requires
 score-all-requires c κs = search rules
 
-place-count-requires : tie.Need-place-count-requires
+place-count-requires : tie.Need-place_count-across-requires
 place-count-requires c κs = search rules
 
-place-count-requires-2 : tie.Need-place-count-requires-2
+place-count-requires-2 : tie.Need-place_count-requires
 place-count-requires-2 c κs = search rules
 
-add-end : tie.Need-overflow-add-end
+add-end : tie.Need-overflow_add-end
 add-end c = search rules
 
-slice-reshare-prefix-quarters-of : tie.Need-slice-reshare-prefix-quarters-of
+slice-reshare-prefix-quarters-of : tie.Need-slice_bounds-quarters_of-end
 slice-reshare-prefix-quarters-of c = search rules
 
-slice-aggregate-quarters-of : tie.Need-slice-aggregate-quarters-of
+slice-aggregate-quarters-of : tie.Need-slice_bounds-quarters_of-end-2
 slice-aggregate-quarters-of c =
-    let at = c.before in
-    sym (across_in (E at) (bounds at) (lists at) at.before.place_count_lem.ensures at.place-count2.ensures)
+    let at = c in
+    sym (across_in (E c) (bounds c) (lists c) at.place_count-across.ensures at.place_count.ensures)
 
-quarters-of-requires : tie.Need-quarters-of-requires
+quarters-of-requires : tie.Need-quarters_of-columns-requires
 quarters-of-requires c κs =
-    let at = c.before.before in
-    let counted = at.before.place_count_lem.ensures in
-    let long = across_in (E at) (bounds at) (lists at) counted at.place-count2.ensures in
-    let room = (at-start at).requires.1.words_in in
-    (rw (columns_are at) (across_fit (E at) (bounds at) (lists at) (scorable at)), omega (arith, long, counted, room))
+    let at = c in
+    let counted = at.place_count-across.ensures in
+    let long = across_in (E c.before) (bounds c.before) (lists c.before) counted at.place_count.ensures in
+    let room = at.requires.1.words_in in
+    (rw (columns_are c.before) (across_fit (E c.before) (bounds c.before) (lists c.before) (scorable c.before)), omega (arith, long, counted, room))
 
-mul-quarters-of : tie.Need-overflow-mul-quarters-of
+mul-quarters-of : tie.Need-offset_bounds-scores-across
 mul-quarters-of c = search rules
 
-sub-quarters-of : tie.Need-overflow-sub-quarters-of
+sub-quarters-of : tie.Need-slice_bounds-quarters_of-count
 sub-quarters-of c = search rules
 
-part-quarters-of-start : tie.Need-slice-bounds-quarters-of-start
+part-quarters-of-start : tie.Need-slice_bounds-quarters_of-start
 part-quarters-of-start c = search rules
 
-part-quarters-of-end : tie.Need-slice-bounds-quarters-of-end
+part-quarters-of-end : tie.Need-slice_bounds-quarters_of-end-3
 part-quarters-of-end c = search rules
 
-quarters-of-requires-2 : tie.Need-quarters-of-requires-2
+quarters-of-requires-2 : tie.Need-quarters_of-rows-requires
 quarters-of-requires-2 c κs =
-    let at = c.before.before.before.before.before.before.before.before in
-    let counted = at.place-count2.ensures in
-    let long = down_in (E at) (bounds at) (lists at) at.before.place_count_lem.ensures counted in
-    let room = (at-start at).requires.1.words_in in
-    (rw (rows_are at) (down_fit (E at) (bounds at) (lists at) (scorable at)), omega (arith, long, counted, room))
+    let at = c in
+    let counted = at.place_count.ensures in
+    let long = down_in (E c.before.before.before.before.before.before) (bounds c.before.before.before.before.before.before) (lists c.before.before.before.before.before.before) at.place_count-across.ensures counted in
+    let room = at.requires.1.words_in in
+    (rw (rows_are c.before.before.before.before.before.before) (down_fit (E c.before.before.before.before.before.before) (bounds c.before.before.before.before.before.before) (lists c.before.before.before.before.before.before) (scorable c.before.before.before.before.before.before)), omega (arith, long, counted, room))
 
-same_length : tie.Need-same-length
+same_length : tie.Need-shape_of-scores
 same_length c = search rules
 
-same-length-2 : tie.Need-same-length-2
+same-length-2 : tie.Need-shape_of-turned
 same-length-2 c = search rules
 
-same-length-3 : tie.Need-same-length-3
+same-length-3 : tie.Need-shape_of-words
 same-length-3 c = search rules
 
 returns : tie.Need-returns
 returns c =
-    let columns = c.before.before.before.before.before.before.before.before in
-    let at = columns.before.before.before in
+    let columns = c in
+    let at = c in
     record {
-      columns_are = columns.quarters-of.ensures ∙ ap quarters_of (columns_are at);
-      rows_are = c.before.before.quarters-of2.ensures ∙ ap quarters_of (rows_are at);
-      scores_are = lists at;
+      columns_are = columns.quarters_of-columns.ensures ∙ ap quarters_of (columns_are c.before.before.before.before.before.before.before.before.before);
+      rows_are = c.quarters_of-rows.ensures ∙ ap quarters_of (rows_are c.before.before.before.before.before.before.before.before.before);
+      scores_are = lists c.before.before.before.before.before.before.before.before.before;
     }
 
-pub read-axes-spec : {M : Type 1} → statement M
-read-axes-spec =
+pub read_axes_spec : {M : Type 1} → statement M
+read_axes_spec =
     tie.close
     (tie.spec
     score-all-requires

@@ -6,42 +6,42 @@ use borrow.Author.Rules.{rules}
 use Rattle.axes.proofs.score_all.Statement.{statement}
 use Rattle.axes.proofs.score_all.Tie as tie
 
-column-scores-requires : tie.Need-column-scores-requires
+column-scores-requires : tie.Need-column_scores-requires
 column-scores-requires c κs = search rules
 
-place-count-requires : tie.Need-place-count-requires
+place-count-requires : tie.Need-place_count-from-requires
 place-count-requires c κs = search rules
 
-mul-row-scores : tie.Need-overflow-mul-row-scores
+mul-row-scores : tie.Need-offset_bounds-scores-from
 mul-row-scores c = search rules
 
-sub-row-scores : tie.Need-overflow-sub-row-scores
+sub-row-scores : tie.Need-slice_bounds-row_scores-count
 sub-row-scores c = search rules
 
-part-row-scores-start : tie.Need-slice-bounds-row-scores-start
+part-row-scores-start : tie.Need-slice_bounds-row_scores-start
 part-row-scores-start c = search rules
 
-part-row-scores-end : tie.Need-slice-bounds-row-scores-end
+part-row-scores-end : tie.Need-slice_bounds-row_scores-end
 part-row-scores-end c = search rules
 
-row-scores-requires : tie.Need-row-scores-requires
+row-scores-requires : tie.Need-row_scores-requires
 row-scores-requires c κs = search rules
 
-same_length : tie.Need-same-length
+same_length : tie.Need-shape_of-turned
 same_length c = search rules
 
-same-length-2 : tie.Need-same-length-2
+same-length-2 : tie.Need-shape_of-scores
 same-length-2 c = search rules
 
 returns : tie.Need-returns
 returns c =
-    let columns = c.before.before.before.before.before.before.before.before.before.before in
-    let count = c.before.before.before.before.before.before.before.place_count_lem.ensures in
-    let rows = c.before.before.before.before in
-    front_behind _ (length_scores _ _ _ _ _ ∙ sym count) columns.column-scores.ensures rows.row-scores.ensures
+    let columns = c in
+    let count = c.place_count-from.ensures in
+    let rows = c in
+    front_behind _ (length_scores _ _ _ _ _ ∙ sym count) columns.column_scores.ensures rows.row_scores.ensures
 
-pub score-all-spec : {M : Type 1} → statement M
-score-all-spec =
+pub score_all_spec : {M : Type 1} → statement M
+score_all_spec =
     tie.close
     (tie.spec
     column-scores-requires

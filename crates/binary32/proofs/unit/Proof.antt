@@ -6,14 +6,14 @@ use Rattle.std.proofs.Common.{rules}
 use Rattle.binary32.proofs.unit.Statement.{statement}
 use Rattle.binary32.proofs.unit.Tie as tie
 
-float-to-bits-result : tie.Need-float-to-bits-result
-float-to-bits-result c = no_nan _ c.if1.false
+float-to-bits-result : tie.Need-float_to_bits-result
+float-to-bits-result c = no_nan _ c.if-x.false
 
-returns : tie.Need-returns
+returns : tie.Need-returns-then-x
 unfolding unit to_bits
-returns c = rw (differs_from_itself _ (T_of c.if1.true))
+returns c = rw (differs_from_itself _ (T_of c.if-x.true))
 
-returns-2 : tie.Need-returns-2
+returns-2 : tie.Need-returns-else-x
 unfolding unit
 returns-2 c = search rules
 

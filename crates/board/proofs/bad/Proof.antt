@@ -7,11 +7,11 @@ use Rattle.board.proofs.bad.Tie as tie
 unit-requires : tie.Need-unit-requires
 unit-requires c κs = search rules
 
-returns : tie.Need-returns
-returns c = rw (sym c.before.unit.ensures ∙ c.if1.true)
+returns : tie.Need-returns-then-unit
+returns c = rw (sym c.before.unit.ensures ∙ c.if-unit.true)
 
-returns-2 : tie.Need-returns-2
-returns-2 c = rw (sym c.before.unit.ensures ∙ c.if1.false)
+returns-2 : tie.Need-returns-else-unit
+returns-2 c = rw (sym c.before.unit.ensures ∙ c.if-unit.false)
 
-pub bad-spec : {M : Type 1} → statement M
-bad-spec = tie.close (tie.spec unit-requires returns returns-2)
+pub bad_spec : {M : Type 1} → statement M
+bad_spec = tie.close (tie.spec unit-requires returns returns-2)

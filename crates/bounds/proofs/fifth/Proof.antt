@@ -12,61 +12,61 @@ use borrow.Author.Rules.{rules}
 use Rattle.bounds.proofs.fifth.Statement.{statement}
 use Rattle.bounds.proofs.fifth.Tie as tie
 
-abbrev invariant-loop : tie.invariant-loop
+abbrev invariant-loop : tie.invariant-loop-p
 invariant-loop g th v m hi more₀ p₀ more p =
     (p ≤ hi) × (seen_at (λ q. steep v th g q m) 4 p₀ (hi - p₀) ≡ seen_at (λ q. steep v th g q m) more p (hi - p))
 
-abbrev decreases-loop : tie.decreases-loop
+abbrev decreases-loop : tie.decreases-loop-p
 decreases-loop g th v m hi more₀ p₀ more p = hi - p
 
-mul-hi : tie.Need-overflow-mul-hi invariant-loop decreases-loop
+mul-hi : tie.Need-overflow_mul-hi invariant-loop decreases-loop
 mul-hi c = search rules
 
-loop-holds : tie.Need-loop-init invariant-loop decreases-loop
+loop-holds : tie.Need-loop-p-init invariant-loop decreases-loop
 loop-holds c = (omega arith, refl)
 
-is-steep-requires : tie.Need-is-steep-requires invariant-loop decreases-loop
-is-steep-requires c κs = let s = c.before.before.before.before.before in (s.requires.0, omega (arith, s.requires.0.small), s.requires.1)
+is-steep-requires : tie.Need-is_steep-requires invariant-loop decreases-loop
+is-steep-requires c κs = let s = c in (s.requires.0, omega (arith, s.requires.0.small), s.requires.1)
 
-returns : tie.Need-returns invariant-loop decreases-loop
+returns : tie.Need-returns-then-more-eq0 invariant-loop decreases-loop
 returns c =
-    let l = c.before.before.before.before in
-    let a = l.before.before.before.before.args in
+    let l = c in
+    let a = l.args in
     let more =
-    seen_more (λ q. steep a.v a.th a.g.now q a.m) l.loop.more l.loop.p _ c.before.before.before.loop-test.true in
-    rw (l.loop.invariant.1, more, sym c.before.before.is-steep.ensures ∙ c.before.if1.true, eq-eqb l.loop.more 0 c.if2.true)
+    seen_more (λ q. steep a.v a.th a.g.now q a.m) l.loop-p.more l.loop-p.p _ c.loop-p-test.true in
+    rw (l.loop-p.invariant.1, more, sym c.is_steep.ensures ∙ c.if-is_steep.true, eq-eqb l.loop-p.more 0 c.if-more-eq0.true)
 
-sub_more : tie.Need-overflow-sub-more invariant-loop decreases-loop
+sub_more : tie.Need-overflow_sub-more invariant-loop decreases-loop
 sub_more c = search rules
 
-add-p : tie.Need-overflow-add-p invariant-loop decreases-loop
+add-p : tie.Need-overflow_step-p-in-loop-p invariant-loop decreases-loop
 add-p c = search rules
 
-loop-less : tie.Need-loop-smaller invariant-loop decreases-loop
+loop-less : tie.Need-loop-p-smaller invariant-loop decreases-loop
 loop-less c = search rules
 
-loop-again : tie.Need-loop-preserved invariant-loop decreases-loop
+loop-again : tie.Need-loop-p-preserved invariant-loop decreases-loop
 loop-again c =
-    let l = c.before.before.before in
-    let a = l.before.before.before.before.args in
+    let l = c in
+    let a = l.args in
     let more =
-    l.loop.invariant.1 ∙ seen_more (λ q. steep a.v a.th a.g.now q a.m) l.loop.more l.loop.p _
-    c.before.before.loop-test.true in
-    let e = c.before.is-steep.ensures in
+    l.loop-p.invariant.1 ∙ seen_more (λ q. steep a.v a.th a.g.now q a.m) l.loop-p.more l.loop-p.p _
+    c.loop-p-test.true in
+    let e = c.is_steep.ensures in
     ⊎_elim
-    (λ w. (omega arith, rw w.2 (rw (sym e ∙ w.0.taken, ne_eqb l.loop.more 0 w.1.left) at more)))
-    (λ w. (omega arith, rw w.1 (rw (sym e ∙ w.0.left) at more)))
-    c.if1.branch
+    (λ w. (omega arith, rw w.more-is (rw (sym e ∙ w.if-is_steep.true, ne_eqb l.loop-p.more 0 w.if-more-eq0.false) at more)))
+    (λ w. (omega arith, rw w.more-is (rw (sym e ∙ w.if-is_steep.false) at more)))
+    c.if-is_steep.branch-raw
 
-returns-2 : tie.Need-returns-2 invariant-loop decreases-loop
+returns-2 : tie.Need-returns invariant-loop decreases-loop
 returns-2 c =
-    let l = c.before in
-    let a = l.before.before.before.before.args in
-    let none = seen_none (λ q. steep a.v a.th a.g.now q a.m) l.loop.more l.loop.p _ c.loop-test.false in
-    sym (l.loop.invariant.1 ∙ none ∙ omega arith)
+    let l = c in
+    let a = l.args in
+    let none = seen_none (λ q. steep a.v a.th a.g.now q a.m) l.loop-p.more l.loop-p.p _ c.loop-p-test.false in
+    sym (l.loop-p.invariant.1 ∙ none ∙ omega arith)
 
-pub fifth-spec : {M : Type 1} → statement M
-fifth-spec =
+pub fifth_spec : {M : Type 1} → statement M
+fifth_spec =
     tie.close
     (tie.spec
     invariant-loop

@@ -11,48 +11,48 @@ use Rattle.bounds.proofs.get_r12c12.Tie as tie
 rows-requires : tie.Need-rows-requires
 rows-requires c κs = search rules
 
-bound-of-requires : tie.Need-bound-of-requires
-bound-of-requires c κs = let p = c.before.before.requires in rows_lie Near (le_refl _) p.4 c.rows.ensures p.3 p.2 p.0
+bound-of-requires : tie.Need-bound_of-requires
+bound-of-requires c κs = let p = c.requires in rows_lie Near (le_refl _) p.4 c.rows.ensures p.3 p.2 p.0
 
 rows-requires-2 : tie.Need-rows-requires-2
 rows-requires-2 c κs = search rules
 
-bound-of-requires-2 : tie.Need-bound-of-requires-2
+bound-of-requires-2 : tie.Need-bound_of-requires-2
 bound-of-requires-2 c κs =
-    let p = c.before.before.before.before.requires in
-    rows_lie Far (le_refl _) p.4 c.rows2.ensures p.3 p.2 p.0
+    let p = c.requires in
+    rows_lie Far (le_refl _) p.4 c.rows-2.ensures p.3 p.2 p.0
 
 columns-requires : tie.Need-columns-requires
 columns-requires c κs = search rules
 
-bound-of-requires-3 : tie.Need-bound-of-requires-3
+bound-of-requires-3 : tie.Need-bound_of-requires-3
 bound-of-requires-3 c κs =
-    let p = c.before.before.before.before.before.before.requires in
+    let p = c.requires in
     columns_lie Near (le_refl _) p.4 c.columns.ensures p.1 p.0 p.2
 
 columns-requires-2 : tie.Need-columns-requires-2
 columns-requires-2 c κs = search rules
 
-bound-of-requires-4 : tie.Need-bound-of-requires-4
+bound-of-requires-4 : tie.Need-bound_of-requires-4
 bound-of-requires-4 c κs =
-    let p = c.before.before.before.before.before.before.before.before.requires in
-    columns_lie Far (le_refl _) p.4 c.columns2.ensures p.1 p.0 p.2
+    let p = c.requires in
+    columns_lie Far (le_refl _) p.4 c.columns-2.ensures p.1 p.0 p.2
 
 returns : tie.Need-returns
 returns c =
-    let c_1 = c.before.before in
-    let r-2 = c_1.before.before in
-    let r-1 = r-2.before.before in
-    let a = r-1.before.before.before.args in
+    let c_1 = c in
+    let r-2 = c in
+    let r-1 = c in
+    let a = r-1.args in
     let E = marks_by a.th a.g.now in
-    let is-r-1 = of_rows bound Near a.row a.column a.column E r-1.bound_of.ensures r-1.before.rows.ensures in
-    let is-r-2 = of_rows bound Far a.row a.column a.column E r-2.bound-of2.ensures r-2.before.rows2.ensures in
-    let is-c-1 = of_columns bound Near a.row a.column a.column E c_1.bound-of3.ensures c_1.before.columns.ensures in
-    let is-c-2 = of_columns bound Far a.row a.column a.column E c.bound-of4.ensures c.before.columns2.ensures in
+    let is-r-1 = of_rows bound Near a.row a.column a.column E r-1.bound_of.ensures r-1.rows.ensures in
+    let is-r-2 = of_rows bound Far a.row a.column a.column E r-2.bound_of-2.ensures r-2.rows-2.ensures in
+    let is-c-1 = of_columns bound Near a.row a.column a.column E c_1.bound_of-3.ensures c_1.columns.ensures in
+    let is-c-2 = of_columns bound Far a.row a.column a.column E c.bound_of-4.ensures c.columns-2.ensures in
     rw (is-r-1, is-r-2, is-c-1, is-c-2)
 
-pub get-r12c12-spec : {M : Type 1} → statement M
-get-r12c12-spec =
+pub get_r12c12_spec : {M : Type 1} → statement M
+get_r12c12_spec =
     tie.close
     (tie.spec
     rows-requires

@@ -9,30 +9,30 @@ use borrow.Author.Rules.{rules}
 use Rattle.bounds.proofs.is_set.Statement.{statement}
 use Rattle.bounds.proofs.is_set.Tie as tie
 
-place-of-requires : tie.Need-place-of-requires
+place-of-requires : tie.Need-place_of-q-requires
 place-of-requires c κs = search rules
 
 -- the point is a byte of the slice
-here : (c : tie.After-place-of) → let a = c.before.before.args in
-    a.p * a.v.down + c.place_of.result * a.v.right < length a.e.now
-here c = let s = c.before.before in rw c.place_of.ensures (point_in s.requires.0 s.requires.1 s.requires.2)
+here : (c : tie.After-place_of-q) → let a = c.args in
+    a.p * a.v.down + c.place_of-q.result * a.v.right < length a.e.now
+here c = let s = c in rw c.place_of-q.ensures (point_in s.requires.0 s.requires.1 s.requires.2)
 
-mul_at : tie.Need-overflow-mul-at
+mul_at : tie.Need-overflow_mul-at
 mul_at c = omega (arith, here c.before)
 
-mul-at-2 : tie.Need-overflow-mul-at-2
+mul-at-2 : tie.Need-overflow_mul-at-2
 mul-at-2 c = omega (arith, here c.before.before)
 
-add_at : tie.Need-overflow-add-at
+add_at : tie.Need-overflow_add-at
 add_at c = omega (arith, here c.before.before)
 
-shared-slice-read-result : tie.Need-shared-slice-read-result
+shared-slice-read-result : tie.Need-bounds-e-at
 shared-slice-read-result c = here c.before.before.before
 
 returns : tie.Need-returns
 unfolding seen points
-returns c = rw c.before.before.before.place_of.ensures
+returns c = rw c.place_of-q.ensures
 
-pub is-set-spec : {M : Type 1} → statement M
-is-set-spec =
+pub is_set_spec : {M : Type 1} → statement M
+is_set_spec =
     tie.close (tie.spec place-of-requires mul_at mul-at-2 add_at shared-slice-read-result returns)

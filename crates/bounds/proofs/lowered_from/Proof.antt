@@ -10,47 +10,47 @@ use borrow.Author.Rules.{rules}
 use Rattle.bounds.proofs.lowered_from.Statement.{statement}
 use Rattle.bounds.proofs.lowered_from.Tie as tie
 
-abbrev invariant-loop : tie.invariant-loop
+abbrev invariant-loop : tie.invariant-loop-m
 invariant-loop e v beside from m₀ m =
     (m ≤ from) × (lowered (sum_at beside (seen v e) v.across) from ≡ lowered (sum_at beside (seen v e) v.across) m)
 
-abbrev decreases-loop : tie.decreases-loop
+abbrev decreases-loop : tie.decreases-loop-m
 decreases-loop e v beside from m₀ m = m
 
-loop-holds : tie.Need-loop-init invariant-loop decreases-loop
+loop-holds : tie.Need-loop-m-init invariant-loop decreases-loop
 loop-holds c = (omega arith, refl)
 
-is-clear-requires : tie.Need-is-clear-requires invariant-loop decreases-loop
+is-clear-requires : tie.Need-is_clear-requires invariant-loop decreases-loop
 is-clear-requires c κs = search rules
 
-returns : tie.Need-returns invariant-loop decreases-loop
+returns : tie.Need-returns-then-is_clear invariant-loop decreases-loop
 returns c =
-    let l = c.before.before.before in
-    let a = l.before.before.args in
-    let more = lowered_more (sum_at a.beside (seen a.v a.e.now) a.v.across) l.loop.m (omega arith) in
-    rw (l.loop.invariant.1, more, sym c.before.is-clear.ensures ∙ c.if1.true)
+    let l = c in
+    let a = l.args in
+    let more = lowered_more (sum_at a.beside (seen a.v a.e.now) a.v.across) l.loop-m.m (omega arith) in
+    rw (l.loop-m.invariant.1, more, sym c.is_clear.ensures ∙ c.if-is_clear.true)
 
-sub-m : tie.Need-overflow-sub-m invariant-loop decreases-loop
+sub-m : tie.Need-overflow_sub-m invariant-loop decreases-loop
 sub-m c = search rules
 
-loop-less : tie.Need-loop-smaller invariant-loop decreases-loop
+loop-less : tie.Need-loop-m-smaller invariant-loop decreases-loop
 loop-less c = search rules
 
-loop-again : tie.Need-loop-preserved invariant-loop decreases-loop
+loop-again : tie.Need-loop-m-preserved invariant-loop decreases-loop
 loop-again c =
-    let l = c.before.before.before in
-    let a = l.before.before.args in
-    let more = lowered_more (sum_at a.beside (seen a.v a.e.now) a.v.across) l.loop.m (omega arith) in
-    (omega arith, rw (sym c.before.is-clear.ensures ∙ c.if1.false) at (l.loop.invariant.1 ∙ more))
+    let l = c in
+    let a = l.args in
+    let more = lowered_more (sum_at a.beside (seen a.v a.e.now) a.v.across) l.loop-m.m (omega arith) in
+    (omega arith, rw (sym c.is_clear.ensures ∙ c.if-is_clear.false) at (l.loop-m.invariant.1 ∙ more))
 
-returns-2 : tie.Need-returns-2 invariant-loop decreases-loop
+returns-2 : tie.Need-returns invariant-loop decreases-loop
 returns-2 c =
-    let l = c.before in
-    let a = l.before.before.args in
-    sym (l.loop.invariant.1 ∙ lowered_none (sum_at a.beside (seen a.v a.e.now) a.v.across) l.loop.m (omega arith))
+    let l = c in
+    let a = l.args in
+    sym (l.loop-m.invariant.1 ∙ lowered_none (sum_at a.beside (seen a.v a.e.now) a.v.across) l.loop-m.m (omega arith))
 
-pub lowered-from-spec : {M : Type 1} → statement M
-lowered-from-spec =
+pub lowered_from_spec : {M : Type 1} → statement M
+lowered_from_spec =
     tie.close
     (tie.spec
     invariant-loop

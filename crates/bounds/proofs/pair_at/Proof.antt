@@ -6,29 +6,29 @@ use borrow.Author.Rules.{rules}
 use Rattle.bounds.proofs.pair_at.Statement.{statement}
 use Rattle.bounds.proofs.pair_at.Tie as tie
 
-is-set-requires : tie.Need-is-set-requires
+is-set-requires : tie.Need-is_set-requires
 is-set-requires c κs = search rules
 
-cast-result : tie.Need-overflow-cast-result
+cast-result : tie.Need-overflow_cast-result
 cast-result c = search rules
 
-second-at-requires : tie.Need-second-at-requires
+second-at-requires : tie.Need-second_at-requires
 second-at-requires c κs = search rules
 
-cast-result-2 : tie.Need-overflow-cast-result-2
+cast-result-2 : tie.Need-overflow_cast-result-2
 cast-result-2 c = search rules
 
-add-result : tie.Need-overflow-add-result
+add-result : tie.Need-overflow_add-result
 add-result c =
-    let a = c.before.is_set.result in
+    let a = c.is_set.result in
     let b = c.second_at.result in
     omega (arith, byte_bit a, bit_le a, byte_bit b, bit_le b)
 
 returns : tie.Need-returns
 returns c =
-    rw (byte_bit c.before.is_set.result, byte_bit c.second_at.result, c.before.is_set.ensures, c.second_at.ensures)
+    rw (byte_bit c.is_set.result, byte_bit c.second_at.result, c.is_set.ensures, c.second_at.ensures)
 
-pub pair-at-spec : {M : Type 1} → statement M
-pair-at-spec =
+pub pair_at_spec : {M : Type 1} → statement M
+pair_at_spec =
     tie.close
     (tie.spec is-set-requires cast-result second-at-requires cast-result-2 add-result returns)

@@ -14,51 +14,51 @@ use Rattle.bounds.proofs.widen.Tie as tie
 rows-requires : tie.Need-rows-requires
 rows-requires c κs = search rules
 
-widened-from-requires : tie.Need-widened-from-requires
-widened-from-requires c κs = let p = c.before.before.requires in rows_lie Near p.4 p.5 c.rows.ensures p.3 p.2 p.6.r_1
+widened-from-requires : tie.Need-widened_from-requires
+widened-from-requires c κs = let p = c.requires in rows_lie Near p.4 p.5 c.rows.ensures p.3 p.2 p.6.r_1
 
 rows-requires-2 : tie.Need-rows-requires-2
 rows-requires-2 c κs = search rules
 
-widened-from-requires-2 : tie.Need-widened-from-requires-2
+widened-from-requires-2 : tie.Need-widened_from-requires-2
 widened-from-requires-2 c κs =
-    let p = c.before.before.before.before.requires in
-    rows_lie Far p.4 p.5 c.rows2.ensures p.3 p.2 p.6.r_2
+    let p = c.requires in
+    rows_lie Far p.4 p.5 c.rows-2.ensures p.3 p.2 p.6.r_2
 
 columns-requires : tie.Need-columns-requires
 columns-requires c κs = search rules
 
-widened-from-requires-3 : tie.Need-widened-from-requires-3
+widened-from-requires-3 : tie.Need-widened_from-requires-3
 widened-from-requires-3 c κs =
-    let p = c.before.before.before.before.before.before.requires in
+    let p = c.requires in
     columns_lie Near p.4 p.5 c.columns.ensures p.1 p.0 p.6.c_1
 
 columns-requires-2 : tie.Need-columns-requires-2
 columns-requires-2 c κs = search rules
 
-widened-from-requires-4 : tie.Need-widened-from-requires-4
+widened-from-requires-4 : tie.Need-widened_from-requires-4
 widened-from-requires-4 c κs =
-    let p = c.before.before.before.before.before.before.before.before.requires in
-    columns_lie Far p.4 p.5 c.columns2.ensures p.1 p.0 p.6.c_2
+    let p = c.requires in
+    columns_lie Far p.4 p.5 c.columns-2.ensures p.1 p.0 p.6.c_2
 
 returns : tie.Need-returns
 returns c =
     let rule : Beside → ℕ → Way → (ℕ → ℕ → Bool) → ℕ → ℕ → ℕ = λ b p way E across along. widened b way E across along p in
-    let c_1 = c.before.before in
-    let r-2 = c_1.before.before in
-    let r-1 = r-2.before.before in
-    let a = r-1.before.before.before.args in
+    let c_1 = c in
+    let r-2 = c in
+    let r-1 = c in
+    let a = r-1.args in
     let E = a.edges.now in
     let is-r-1 =
-    of_rows (rule Along a.b.r_1) Near a.row a.column a.stride E r-1.widened-from.ensures r-1.before.rows.ensures in
+    of_rows (rule Along a.b.r_1) Near a.row a.column a.stride E r-1.widened_from.ensures r-1.rows.ensures in
     let is-r-2 =
-    of_rows (rule Along a.b.r_2) Far a.row a.column a.stride E r-2.widened-from2.ensures r-2.before.rows2.ensures in
+    of_rows (rule Along a.b.r_2) Far a.row a.column a.stride E r-2.widened_from-2.ensures r-2.rows-2.ensures in
     let is-c-1 =
-    of_columns (rule Across a.b.c_1) Near a.row a.column a.stride E c_1.widened-from3.ensures
-    c_1.before.columns.ensures in
+    of_columns (rule Across a.b.c_1) Near a.row a.column a.stride E c_1.widened_from-3.ensures
+    c_1.columns.ensures in
     let is-c-2 =
-    of_columns (rule Along a.b.c_2) Far a.row a.column a.stride E c.widened-from4.ensures
-    c.before.columns2.ensures in
+    of_columns (rule Along a.b.c_2) Far a.row a.column a.stride E c.widened_from-4.ensures
+    c.columns-2.ensures in
     rw (is-r-1, is-r-2, is-c-1, is-c-2)
 
 pub widen_spec : {M : Type 1} → statement M

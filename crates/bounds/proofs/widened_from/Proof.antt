@@ -9,28 +9,28 @@ use borrow.Author.Rules.{rules}
 use Rattle.bounds.proofs.widened_from.Statement.{statement}
 use Rattle.bounds.proofs.widened_from.Tie as tie
 
-place-of-requires : tie.Need-place-of-requires
+place-of-requires : tie.Need-place_of-from-requires
 place-of-requires c κs = search rules
 
-below : (c : tie.After-place-of) → c.place_of.result < c.before.before.args.v.along
-below c = rw c.place_of.ensures (place_below c.before.before.args.v.way c.before.before.requires.2)
+below : (c : tie.After-place_of-from) → c.place_of-from.result < c.args.v.along
+below c = rw c.place_of-from.ensures (place_below c.args.v.way c.requires.2)
 
-lowered-from-requires : tie.Need-lowered-from-requires
+lowered-from-requires : tie.Need-lowered_from-m-requires
 lowered-from-requires c κs =
-    let s = c.before.before in
+    let s = c in
     (s.requires.0, s.requires.1, below c)
 
-place-of-requires-2 : tie.Need-place-of-requires-2
+place-of-requires-2 : tie.Need-place_of-requires
 place-of-requires-2 c κs =
-    let s = c.before.before.before in
+    let s = c in
     let le =
-    lowered_le (sum_at s.args.beside (seen s.args.v s.args.e.now) s.args.v.across) c.before.place_of.result in
-    omega (arith, c.lowered-from.ensures, le, below c.before)
+    lowered_le (sum_at s.args.beside (seen s.args.v s.args.e.now) s.args.v.across) c.place_of-from.result in
+    omega (arith, c.lowered_from-m.ensures, le, below c.before)
 
 returns : tie.Need-returns
 unfolding widened seen
-returns c = rw (c.place-of2.ensures, c.before.lowered-from.ensures, c.before.before.place_of.ensures)
+returns c = rw (c.place_of.ensures, c.lowered_from-m.ensures, c.place_of-from.ensures)
 
-pub widened-from-spec : {M : Type 1} → statement M
-widened-from-spec =
+pub widened_from_spec : {M : Type 1} → statement M
+widened_from_spec =
     tie.close (tie.spec place-of-requires lowered-from-requires place-of-requires-2 returns)

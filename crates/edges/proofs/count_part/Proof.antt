@@ -9,87 +9,78 @@ use borrow.Author.Rules.{rules}
 use Rattle.edges.proofs.count_part.Statement.{statement}
 use Rattle.edges.proofs.count_part.Tie as tie
 
-abbrev invariant-loop : tie.invariant-loop
+abbrev invariant-loop : tie.invariant-loop-i
 invariant-loop every parts row column g bits rows columns count₀ i₀ count i =
     (i ≤ rows) × Counted bits (at_place (part_at every parts row column g) columns) (i * columns) count
 
-abbrev decreases-loop : tie.decreases-loop
+abbrev decreases-loop : tie.decreases-loop-i
 decreases-loop every parts row column g bits rows columns count₀ i₀ count i = rows - i
 
 -- the places that the others follow
-abbrev at-sizes : tie.At-loop invariant-loop decreases-loop → tie.After-taken2 invariant-loop decreases-loop
-at-sizes c = c.before
-
-abbrev at-start : tie.At-loop invariant-loop decreases-loop → tie.Start invariant-loop decreases-loop
-at-start c = (at-sizes c).before.before.before
-
-abbrev at_turn : tie.After-count-row invariant-loop decreases-loop → tie.At-loop invariant-loop decreases-loop
-at_turn c = c.before.before.before
-
-taken-requires : tie.Need-taken-requires invariant-loop decreases-loop
+taken-requires : tie.Need-taken-rows-requires invariant-loop decreases-loop
 taken-requires c κs = search rules
 
-taken-requires-2 : tie.Need-taken-requires-2 invariant-loop decreases-loop
+taken-requires-2 : tie.Need-taken-columns-requires invariant-loop decreases-loop
 taken-requires-2 c κs = search rules
 
-loop-holds : tie.Need-loop-init invariant-loop decreases-loop
+loop-holds : tie.Need-loop-i-init invariant-loop decreases-loop
 loop-holds c = (omega arith, rw zero-mul counted_none)
 
-row-start-requires : tie.Need-row-start-requires invariant-loop decreases-loop
+row-start-requires : tie.Need-row_start-from-requires invariant-loop decreases-loop
 row-start-requires c κs =
-    let s = at-start c.before in
-    let sizes = at-sizes c.before in (
-      (s.pre.0.0, s.pre.0.1, s.pre.1.row_in, s.pre.1.column_in),
-      (sizes.taken2.ensures.0, omega (arith, sizes.before.taken.ensures.0, c.loop-test.true)),
+    let s = c in
+    let sizes = c in (
+      (s.requires.0.0, s.requires.0.1, s.requires.1.row_in, s.requires.1.column_in),
+      (sizes.taken-columns.ensures.0, omega (arith, sizes.taken-rows.ensures.0, c.loop-i-test.true)),
     )
 
-count-row-requires : tie.Need-count-row-requires invariant-loop decreases-loop
+count-row-requires : tie.Need-count_row-count-requires invariant-loop decreases-loop
 count-row-requires c κs =
-    let at = c.before.before in
-    let s = at-start at in
-    let wide = (at-sizes at).taken2.ensures.1 in
-    ((omega (arith, c.row-start.ensures.1, s.pre.1.long), omega (arith, wide), s.pre.0.2), s.pre.1.plain)
+    let at = c in
+    let s = c in
+    let wide = at.taken-columns.ensures.1 in
+    ((omega (arith, c.row_start-from.ensures.1, s.requires.1.long), omega (arith, wide), s.requires.0.2), s.requires.1.plain)
 
 -- the count with one row more
-here : (c : tie.After-count-row invariant-loop decreases-loop)
-    → let at = at_turn c in
-    let a = (at-start at).args in
-    let n = (at-sizes at).taken2.result in
-    Counted a.bits (at_place (part_at a.every a.parts a.row a.column a.g.now) n) ((at.loop.i + 1) * n)
-    (at.loop.count + c.count-row.result)
+here : (c : tie.After-count_row-count invariant-loop decreases-loop)
+    → let at = c in
+    let a = at.args in
+    let n = at.taken-columns.result in
+    Counted a.bits (at_place (part_at a.every a.parts a.row a.column a.g.now) n) ((at.loop-i.i + 1) * n)
+    (at.loop-i.count + c.count_row-count.result)
 here c =
-    let at = at_turn c in
-    let a = (at-start at).args in
+    let at = c in
+    let a = at.args in
     let value = part_at a.every a.parts a.row a.column a.g.now in
-    counted_row value (at-sizes at).taken2.result at.loop.i at.loop.inv.1
-    (rw c.before.row-start.ensures.0 at c.count-row.ensures)
+    counted_row value at.taken-columns.result at.loop-i.i at.loop-i.invariant.1
+    (rw c.row_start-from.ensures.0 at c.count_row-count.ensures)
 
-add-count : tie.Need-overflow-add-count invariant-loop decreases-loop
+add-count : tie.Need-overflow_add-count invariant-loop decreases-loop
 add-count c =
-    let at = at_turn c in
-    let sizes = at-sizes at in
-    let rows : at.loop.i + 1 ≤ 2048 = omega (arith, sizes.before.taken.ensures.1) in
-    omega (arith, (here c).few, mul-le-mul rows sizes.taken2.ensures.1)
+    let at = c in
+    let sizes = c in
+    let rows : at.loop-i.i + 1 ≤ 2048 = omega (arith, sizes.taken-rows.ensures.1) in
+    omega (arith, (here c).few, mul-le-mul rows sizes.taken-columns.ensures.1)
 
-add-i : tie.Need-overflow-add-i invariant-loop decreases-loop
+add-i : tie.Need-overflow_step-i invariant-loop decreases-loop
 add-i c = search rules
 
-loop-less : tie.Need-loop-smaller invariant-loop decreases-loop
+loop-less : tie.Need-loop-i-smaller invariant-loop decreases-loop
 loop-less c = search rules
 
-loop-again : tie.Need-loop-preserved invariant-loop decreases-loop
+loop-again : tie.Need-loop-i-preserved invariant-loop decreases-loop
 loop-again c = (omega arith, here c)
 
 returns : tie.Need-returns invariant-loop decreases-loop
 returns c =
-    let at = c.before in
-    let sizes = at-sizes at in
-    let a = (at-start at).args in
-    let e : at.loop.i ≡ taken a.every a.row = omega (arith, sizes.before.taken.ensures.0) in
-    counted_all (part_at a.every a.parts a.row a.column a.g.now) at.loop.invariant.1 e sizes.taken2.ensures.0
+    let at = c in
+    let sizes = c in
+    let a = at.args in
+    let e : at.loop-i.i ≡ taken a.every a.row = omega (arith, sizes.taken-rows.ensures.0) in
+    counted_all (part_at a.every a.parts a.row a.column a.g.now) at.loop-i.invariant.1 e sizes.taken-columns.ensures.0
 
-pub count-part-spec : {M : Type 1} → statement M
-count-part-spec =
+pub count_part_spec : {M : Type 1} → statement M
+count_part_spec =
     tie.close
     (tie.spec
     invariant-loop

@@ -6,52 +6,46 @@ use borrow.Author.Rules.{rules}
 use Rattle.edges.proofs.guess.Statement.{statement}
 use Rattle.edges.proofs.guess.Tie as tie
 
-abbrev invariant-loop : tie.invariant-loop
+abbrev invariant-loop : tie.invariant-loop-range
 invariant-loop row column g rank range₀ range = (range₀.lo ≤ range.lo) × (range.lo ≤ range.hi) × (range.hi ≤ range₀.hi)
 
-abbrev decreases-loop : tie.decreases-loop
+abbrev decreases-loop : tie.decreases-loop-range
 decreases-loop row column g rank range₀ range = range.hi - range.lo
 
 -- the places that a turn comes from: where it begins, and where it counts
-abbrev at-halfway : tie.After-cut invariant-loop decreases-loop → tie.After-halfway invariant-loop decreases-loop
-at-halfway c = c.before.before
-
-abbrev at_turn : tie.After-cut invariant-loop decreases-loop → tie.At-loop invariant-loop decreases-loop
-at_turn c = (at-halfway c).before.before.before
-
-loop-holds : tie.Need-loop-init invariant-loop decreases-loop
+loop-holds : tie.Need-loop-range-init invariant-loop decreases-loop
 loop-holds c = search rules
 
-halfway-requires : tie.Need-halfway-requires invariant-loop decreases-loop
+halfway-requires : tie.Need-halfway-mid-requires invariant-loop decreases-loop
 halfway-requires c κs = search rules
 
-count-part-requires : tie.Need-count-part-requires invariant-loop decreases-loop
+count-part-requires : tie.Need-count_part-count-requires invariant-loop decreases-loop
 count-part-requires c κs = search rules
 
-cut-requires : tie.Need-cut-requires invariant-loop decreases-loop
+cut-requires : tie.Need-cut-range-requires invariant-loop decreases-loop
 cut-requires c κs = search rules
 
 -- the range after a turn
-next : (c : tie.After-cut invariant-loop decreases-loop)
-    → let r = (at_turn c).loop.range in
-    let s = c.cut.result in
+next : (c : tie.After-cut-range invariant-loop decreases-loop)
+    → let r = c.loop-range.range in
+    let s = c.cut-range.result in
     (r.lo ≤ s.lo) × (s.lo ≤ s.hi) × (s.hi ≤ r.hi) × (s.hi - s.lo < r.hi - r.lo)
-next c = let m = (at-halfway c).halfway.ensures in cut_inside m.0 m.1 c.cut.ensures
+next c = let m = c.halfway-mid.ensures in cut_inside m.0 m.1 c.cut-range.ensures
 
-loop-less : tie.Need-loop-smaller invariant-loop decreases-loop
+loop-less : tie.Need-loop-range-smaller invariant-loop decreases-loop
 loop-less c = (next c).3
 
-loop-again : tie.Need-loop-preserved invariant-loop decreases-loop
+loop-again : tie.Need-loop-range-preserved invariant-loop decreases-loop
 loop-again c =
-    let i = (at_turn c).loop.invariant in
+    let i = c.loop-range.invariant in
     let n = next c in
     (omega (arith, i.0, n.0), n.1, omega (arith, i.2, n.2))
 
 returns : tie.Need-returns invariant-loop decreases-loop
 returns c = search rules
 
-pub guess-spec : {M : Type 1} → statement M
-guess-spec =
+pub guess_spec : {M : Type 1} → statement M
+guess_spec =
     tie.close
     (tie.spec
     invariant-loop

@@ -13,50 +13,47 @@ use borrow.Author.Rules.{rules}
 use Rattle.edges.proofs.mark.Statement.{statement}
 use Rattle.edges.proofs.mark.Tie as tie
 
-abbrev invariant-loop : tie.invariant-loop
+abbrev invariant-loop : tie.invariant-loop-k
 invariant-loop th g out₀ k₀ k-end out k = (k ≤ length g) × AtFront (marks th k g) out₀ out
 
-abbrev decreases-loop : tie.decreases-loop
+abbrev decreases-loop : tie.decreases-loop-k
 decreases-loop th g out₀ k₀ k-end out k = length g - k
 
-abbrev at-start : tie.At-loop invariant-loop decreases-loop → tie.Start invariant-loop decreases-loop
-at-start c = c.before.before.before
-
-loop-holds : tie.Need-loop-init invariant-loop decreases-loop
+loop-holds : tie.Need-loop-k-init invariant-loop decreases-loop
 loop-holds c = (omega arith, front_none)
 
-mul-at-most : tie.Need-overflow-mul-at-most invariant-loop decreases-loop
+mul-at-most : tie.Need-offset_bounds-g-k invariant-loop decreases-loop
 mul-at-most c = search rules
 
-shared-slice-read-at-most : tie.Need-shared-slice-read-at-most invariant-loop decreases-loop
+shared-slice-read-at-most : tie.Need-bounds-g-k invariant-loop decreases-loop
 shared-slice-read-at-most c = search rules
 
-at-most-requires : tie.Need-at-most-requires invariant-loop decreases-loop
+at-most-requires : tie.Need-at_most-requires invariant-loop decreases-loop
 at-most-requires c κs = search rules
 
-slice-write-out : tie.Need-slice-write-out invariant-loop decreases-loop
+slice-write-out : tie.Need-bounds-out-k invariant-loop decreases-loop
 slice-write-out c = search rules
 
-add-k : tie.Need-overflow-add-k invariant-loop decreases-loop
+add-k : tie.Need-overflow_step-k invariant-loop decreases-loop
 add-k c = search rules
 
-loop-less : tie.Need-loop-smaller invariant-loop decreases-loop
+loop-less : tie.Need-loop-k-smaller invariant-loop decreases-loop
 loop-less c = search rules
 
-loop-again : tie.Need-loop-preserved invariant-loop decreases-loop
+loop-again : tie.Need-loop-k-preserved invariant-loop decreases-loop
 loop-again c =
-    let at = c.before.before.before in
-    let a = (at-start at).args in
-    (omega arith, front_more (λ k. bit (le a.th (get_or a.g.now k nan))) _ at.loop.invariant.1 (omega arith) c.at_most.ensures)
+    let at = c in
+    let a = at.args in
+    (omega arith, front_more (λ k. bit (le a.th (get_or a.g.now k nan))) _ at.loop-k.invariant.1 (omega arith) c.at_most.ensures)
 
-same_length : tie.Need-same-length invariant-loop decreases-loop
+same_length : tie.Need-shape_of-out invariant-loop decreases-loop
 same_length c = search rules
 
 returns : tie.Need-returns invariant-loop decreases-loop
 returns c =
-    let at = c.before in
-    let e : at.loop.k ≡ length (at-start at).args.g.now = omega arith in
-    rw e at at.loop.invariant.1
+    let at = c in
+    let e : at.loop-k.k ≡ length at.args.g.now = omega arith in
+    rw e at at.loop-k.invariant.1
 
 pub mark_spec : {M : Type 1} → statement M
 mark_spec =

@@ -6,48 +6,48 @@ use borrow.Author.Rules.{rules}
 use Rattle.edges.proofs.rank_in_part.Statement.{statement}
 use Rattle.edges.proofs.rank_in_part.Tie as tie
 
-less-requires : tie.Need-less-requires
+less-requires : tie.Need-less-wide-requires
 less-requires c κs = search rules
 
-cast-wide : tie.Need-overflow-cast-wide
+cast-wide : tie.Need-overflow_cast-wide
 cast-wide c = search rules
 
-less-requires-2 : tie.Need-less-requires-2
+less-requires-2 : tie.Need-less-requires
 less-requires-2 c κs = search rules
 
-cast-share : tie.Need-overflow-cast-share
+cast-share : tie.Need-overflow_cast-share
 cast-share c = search rules
 
-less-requires-3 : tie.Need-less-requires-3
+less-requires-3 : tie.Need-less-requires-2
 less-requires-3 c κs = search rules
 
-cast-share-2 : tie.Need-overflow-cast-share-2
+cast-share-2 : tie.Need-overflow_cast-share-2
 cast-share-2 c = search rules
 
-mul-share : tie.Need-overflow-mul-share
-mul-share c = omega (arith, mul-le-mul c.before.less2.ensures.1 c.less3.ensures.1)
+mul-share : tie.Need-overflow_mul-share
+mul-share c = omega (arith, mul-le-mul c.less.ensures.1 c.less-2.ensures.1)
 
-cast-result : tie.Need-overflow-cast-result
+cast-result : tie.Need-overflow_cast-result
 cast-result c = search rules
 
-div-result : tie.Need-nonzero-div-result
+div-result : tie.Need-nonzero_div-result
 div-result c = search rules
 
-add-result : tie.Need-overflow-add-result
+add-result : tie.Need-overflow_add-result
 add-result c =
-    let b = c.before.before in
-    let x = b.before.less2.result * b.less3.result in
-    let m = mul-le-mul b.before.less2.ensures.1 b.less3.ensures.1 in
-    omega (arith, c.struct_known.given.1.1.0, m, div-le_self x b.before.before.less.result)
+    let b = c in
+    let x = b.less.result * b.less-2.result in
+    let m = mul-le-mul b.less.ensures.1 b.less-2.ensures.1 in
+    omega (arith, c.struct_known-1.given.1.1.0, m, div-le_self x b.less-wide.result)
 
-returns : tie.Need-returns
+returns : tie.Need-returns-then-wide-eq0
 returns c = search rules
 
-returns-2 : tie.Need-returns-2
+returns-2 : tie.Need-returns-else-wide-eq0
 returns-2 c = search rules
 
-pub rank-in-part-spec : {M : Type 1} → statement M
-rank-in-part-spec =
+pub rank_in_part_spec : {M : Type 1} → statement M
+rank_in_part_spec =
     tie.close
     (tie.spec
     less-requires

@@ -8,9 +8,9 @@ use borrow.Author.Rules.{rules}
 use Rattle.edges.proofs.rank_of.Statement.{statement}
 use Rattle.edges.proofs.rank_of.Tie as tie
 
-int-to-float-trunc : tie.Need-int-to-float-trunc
+int-to-float-trunc : tie.Need-int_to_float-m
 unfolding in_float
-int-to-float-trunc c = le→leb c.before.args.m (2 ^ 24) (omega arith)
+int-to-float-trunc c = le→leb c.args.m (2 ^ 24) (omega arith)
 
 trunc-requires : tie.Need-trunc-requires
 trunc-requires c κs = search rules
@@ -19,5 +19,5 @@ returns : tie.Need-returns
 unfolding rank_of
 returns c = c.trunc.ensures
 
-pub rank-of-spec : {M : Type 1} → statement M
-rank-of-spec = tie.close (tie.spec int-to-float-trunc trunc-requires returns)
+pub rank_of_spec : {M : Type 1} → statement M
+rank_of_spec = tie.close (tie.spec int-to-float-trunc trunc-requires returns)

@@ -31,44 +31,44 @@ small c = let a = c.args in omega (arith, c.requires.1.1, div-le_self (middle a.
 area : (c : tie.Start) → c.args.row * c.args.column ≤ 4094 * 4094
 area c = mul-le-mul c.requires.0.2 c.requires.0.3
 
-mul-result : tie.Need-overflow-mul-result
+mul-result : tie.Need-overflow_mul-result
 mul-result c = omega (arith, inside c)
 
-mul-result-2 : tie.Need-overflow-mul-result-2
+mul-result-2 : tie.Need-overflow_mul-result-2
 mul-result-2 c = omega (arith, mul-le-mul (small c) (small c))
 
-rem-result : tie.Need-nonzero-rem-result
+rem-result : tie.Need-nonzero_rem-result
 rem-result c = search rules
 
-add-result : tie.Need-overflow-add-result
+add-result : tie.Need-overflow_add-result
 add-result c = omega (arith, inside c)
 
-add-result-2 : tie.Need-overflow-add-result-2
+add-result-2 : tie.Need-overflow_add-result-2
 add-result-2 c = omega (arith, inside c)
 
-mul-result-3 : tie.Need-overflow-mul-result-3
+mul-result-3 : tie.Need-overflow_mul-result-3
 mul-result-3 c = omega (arith, among c, area c)
 
-mul-result-4 : tie.Need-overflow-mul-result-4
+mul-result-4 : tie.Need-overflow_mul-result-4
 mul-result-4 c = omega (arith, small c)
 
-rem-result-2 : tie.Need-nonzero-rem-result-2
+rem-result-2 : tie.Need-nonzero_rem-result-2
 rem-result-2 c = search rules
 
-mul-result-5 : tie.Need-overflow-mul-result-5
+mul-result-5 : tie.Need-overflow_mul-result-5
 mul-result-5 c = omega (arith, among c, area c)
 
-add-result-3 : tie.Need-overflow-add-result-3
+add-result-3 : tie.Need-overflow_add-result-3
 add-result-3 c = omega (arith, among c, area c)
 
-add-result-4 : tie.Need-overflow-add-result-4
+add-result-4 : tie.Need-overflow_add-result-4
 add-result-4 c = omega (arith, among c, area c)
 
 returns : tie.Need-returns
 returns c = (rw c.requires.1.0 refl, among c)
 
-pub row-start-spec : {M : Type 1} → statement M
-row-start-spec =
+pub row_start_spec : {M : Type 1} → statement M
+row_start_spec =
     tie.close
     (tie.spec
     mul-result

@@ -12,18 +12,18 @@ taken-requires c κs = search rules
 taken-requires-2 : tie.Need-taken-requires-2
 taken-requires-2 c κs = search rules
 
-small : (c : tie.After-taken2) → c.before.taken.result * c.taken2.result ≤ 2048 * 2048
-small c = mul-le-mul c.before.taken.ensures.1 c.taken2.ensures.1
+small : (c : tie.After-taken-2) → c.taken.result * c.taken-2.result ≤ 2048 * 2048
+small c = mul-le-mul c.taken.ensures.1 c.taken-2.ensures.1
 
-mul-size : tie.Need-overflow-mul-size
+mul-size : tie.Need-overflow_mul-size
 mul-size c = omega (arith, small c)
 
-cast-result : tie.Need-overflow-cast-result
+cast-result : tie.Need-overflow_cast-result
 cast-result c = omega (arith, small c)
 
 returns : tie.Need-returns
 returns c = search rules
 
-pub size-of-part-spec : {M : Type 1} → statement M
-size-of-part-spec =
+pub size_of_part_spec : {M : Type 1} → statement M
+size_of_part_spec =
     tie.close (tie.spec taken-requires taken-requires-2 mul-size cast-result returns)

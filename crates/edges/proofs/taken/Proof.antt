@@ -9,13 +9,13 @@ use Rattle.edges.proofs.taken.Tie as tie
 middle-requires : tie.Need-middle-requires
 middle-requires c κs = search rules
 
-div-result : tie.Need-nonzero-div-result
+div-result : tie.Need-nonzero_div-result
 div-result c = search rules
 
 returns : tie.Need-returns
 returns c =
     let m = c.middle.ensures in
-    (rw m refl, omega (arith, div-le_self c.middle.result c.before.args.every, m))
+    (rw m refl, omega (arith, div-le_self c.middle.result c.args.every, m))
 
-pub taken-spec : {M : Type 1} → statement M
-taken-spec = tie.close (tie.spec middle-requires div-result returns)
+pub taken_spec : {M : Type 1} → statement M
+taken_spec = tie.close (tie.spec middle-requires div-result returns)

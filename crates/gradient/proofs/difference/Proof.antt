@@ -8,5 +8,5 @@ returns : tie.Need-returns
 unfolding difference
 returns c = refl
 
-pub difference-spec : {M : Type 1} → statement M
-difference-spec = tie.close (tie.spec returns)
+pub difference_spec : {M : Type 1} → statement M
+difference_spec = tie.close (tie.spec returns)

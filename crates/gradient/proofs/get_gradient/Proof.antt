@@ -11,43 +11,39 @@ use borrow.Author.Rules.{rules}
 use Rattle.gradient.proofs.get_gradient.Statement.{statement}
 use Rattle.gradient.proofs.get_gradient.Tie as tie
 
-abbrev at-start : tie.After-planes-answer → tie.Start
-at-start c = c.before.before.before.before
-
--- what the answer is
-answered : (c : tie.After-planes-answer)
-    → let a = (at-start c).args in
-    c.planes-answer.result
+answered : (c : tie.After-planes_answer-answer)
+    → let a = c.args in
+    c.planes_answer-answer.result
     ≡ planes_answer least_plane_side a.height a.width a.planes.now (ltb (length a.out.now) ((a.height - 2) * (a.width - 2)))
 answered c =
-    let a = (at-start c).args in
-    c.planes-answer.ensures ∙ answer_same least_plane_side a.height a.width a.planes.now _ _ c.before.room-short.ensures
+    let a = c.args in
+    c.planes_answer-answer.ensures ∙ answer_same least_plane_side a.height a.width a.planes.now _ _ c.room_short-short.ensures
 
-room-short-requires : tie.Need-room-short-requires
+room-short-requires : tie.Need-room_short-short-requires
 room-short-requires c κs = search rules
 
-planes-answer-requires : tie.Need-planes-answer-requires
+planes-answer-requires : tie.Need-planes_answer-answer-requires
 planes-answer-requires c κs = search rules
 
-gradient-of-requires : tie.Need-gradient-of-requires
+gradient-of-requires : tie.Need-gradient_of-requires
 gradient-of-requires c κs =
-    let then = c.before in
-    fit _ _ _ (at-start then.before).args.out.now _ (answered then.before) then.if1.true
+    let then = c in
+    fit _ _ _ then.args.out.now _ (answered c.before.before) then.if-answer-eq0.true
 
-same_length : tie.Need-same-length
+same_length : tie.Need-shape_of-out-then-answer-eq0
 same_length c = search rules
 
-returns : tie.Need-returns
+returns : tie.Need-returns-then-answer-eq0
 returns c =
-    let wrote = c.before.before in
-    let then = wrote.before.before in
-    worked _ _ _ _ _ (answered then.before) then.if1.true _ wrote.gradient-of.ensures
+    let wrote = c in
+    let then = c in
+    worked _ _ _ _ _ (answered c.before.before.before.before.before) then.if-answer-eq0.true _ wrote.gradient_of.ensures
 
-returns-2 : tie.Need-returns-2
-returns-2 c = refused _ _ _ _ _ (answered c.before) c.if1.false
+returns-2 : tie.Need-returns
+returns-2 c = refused _ _ _ _ _ (answered c.before) c.if-answer-eq0.false
 
-pub get-gradient-spec : {M : Type 1} → statement M
-get-gradient-spec =
+pub get_gradient_spec : {M : Type 1} → statement M
+get_gradient_spec =
     tie.close
     (tie.spec
     room-short-requires

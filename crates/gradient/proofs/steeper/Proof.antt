@@ -12,14 +12,14 @@ larger-requires : tie.Need-larger-requires
 larger-requires c κs = search rules
 
 slope-requires-2 : tie.Need-slope-requires-2
-slope-requires-2 c κs = (omega arith, λ k l. c.before.before.before.requires.1 k (omega arith))
+slope-requires-2 c κs = (omega arith, λ k l. c.requires.1 k (omega arith))
 
 larger-requires-2 : tie.Need-larger-requires-2
 larger-requires-2 c κs = search rules
 
 returns : tie.Need-returns
-returns c = let a = c.before.before.before.before.before.args in cc (steeper_is a.p.now a.at a.width a.best)
+returns c = let a = c.args in cc (steeper_is a.p.now a.at a.width a.best)
 
-pub steeper-spec : {M : Type 1} → statement M
-steeper-spec =
+pub steeper_spec : {M : Type 1} → statement M
+steeper_spec =
     tie.close (tie.spec slope-requires larger-requires slope-requires-2 larger-requires-2 returns)

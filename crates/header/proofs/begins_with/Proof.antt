@@ -10,52 +10,52 @@ use borrow.Author.Rules.{rules}
 use Rattle.header.proofs.begins_with.Statement.{statement}
 use Rattle.header.proofs.begins_with.Tie as tie
 
-abbrev invariant-loop : tie.invariant-loop
+abbrev invariant-loop : tie.invariant-loop-k
 invariant-loop line bytes k₀ k-end k =
     (k ≤ length line)
     × (k-end ≡ length line)
     × (length line ≤ length bytes)
     × (begins (drop k line) (drop k bytes) ≡ begins line bytes)
 
-abbrev decreases-loop : tie.decreases-loop
+abbrev decreases-loop : tie.decreases-loop-k
 decreases-loop line bytes k₀ k-end k = length line - k
 
-returns : tie.Need-returns invariant-loop decreases-loop
-returns c = sym (begins_short c.before.args.line.now c.before.args.bytes.now c.if1.true)
+returns : tie.Need-returns-then-bytes-line invariant-loop decreases-loop
+returns c = sym (begins_short c.args.line.now c.args.bytes.now c.if-bytes-line.true)
 
-loop-holds : tie.Need-loop-init invariant-loop decreases-loop
-loop-holds c = (omega arith, refl, c.if1.false, refl)
+loop-holds : tie.Need-loop-k-init invariant-loop decreases-loop
+loop-holds c = (omega arith, refl, c.if-bytes-line.false, refl)
 
-shared-slice-read-if2 : tie.Need-shared-slice-read-if2 invariant-loop decreases-loop
+shared-slice-read-if2 : tie.Need-bounds-line-k invariant-loop decreases-loop
 shared-slice-read-if2 c = search rules
 
-shared-slice-read-if2-2 : tie.Need-shared-slice-read-if2-2 invariant-loop decreases-loop
+shared-slice-read-if2-2 : tie.Need-bounds-bytes-k invariant-loop decreases-loop
 shared-slice-read-if2-2 c = search rules
 
-returns-2 : tie.Need-returns-2 invariant-loop decreases-loop
+returns-2 : tie.Need-returns-then-line-k invariant-loop decreases-loop
 returns-2 c =
-    let at = c.before.before.before.before in
-    let a = at.before.before.args in
-    sym (begins_differs a.line.now a.bytes.now at.loop.k (omega arith) (omega arith) c.if2.true) ∙ at.loop.invariant.3
+    let at = c in
+    let a = at.args in
+    sym (begins_differs a.line.now a.bytes.now at.loop-k.k (omega arith) (omega arith) c.if-line-k.true) ∙ at.loop-k.invariant.3
 
-add-k : tie.Need-overflow-add-k invariant-loop decreases-loop
+add-k : tie.Need-overflow_step-k invariant-loop decreases-loop
 add-k c = search rules
 
-loop-less : tie.Need-loop-smaller invariant-loop decreases-loop
+loop-less : tie.Need-loop-k-smaller invariant-loop decreases-loop
 loop-less c = search rules
 
-loop-again : tie.Need-loop-preserved invariant-loop decreases-loop
+loop-again : tie.Need-loop-k-preserved invariant-loop decreases-loop
 loop-again c =
-    let at = c.before.before.before.before in
-    let a = at.before.before.args in
-    let more = begins_more a.line.now a.bytes.now at.loop.k (omega arith) (omega arith) c.if2.false in
-    (omega arith, refl, at.loop.invariant.2, more ∙ at.loop.invariant.3)
+    let at = c in
+    let a = at.args in
+    let more = begins_more a.line.now a.bytes.now at.loop-k.k (omega arith) (omega arith) c.if-line-k.false in
+    (omega arith, refl, at.loop-k.invariant.2, more ∙ at.loop-k.invariant.3)
 
-returns-3 : tie.Need-returns-3 invariant-loop decreases-loop
-returns-3 c = sym (begins_all c.before.before.before.args.line.now _ c.before.loop.k (omega arith)) ∙ c.before.loop.invariant.3
+returns-3 : tie.Need-returns invariant-loop decreases-loop
+returns-3 c = sym (begins_all c.args.line.now _ c.loop-k.k (omega arith)) ∙ c.loop-k.invariant.3
 
-pub begins-with-spec : {M : Type 1} → statement M
-begins-with-spec =
+pub begins_with_spec : {M : Type 1} → statement M
+begins_with_spec =
     tie.close
     (tie.spec
     invariant-loop

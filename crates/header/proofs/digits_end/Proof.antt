@@ -8,48 +8,48 @@ use borrow.Author.Rules.{rules}
 use Rattle.header.proofs.digits_end.Statement.{statement}
 use Rattle.header.proofs.digits_end.Tie as tie
 
-abbrev invariant-loop : tie.invariant-loop
+abbrev invariant-loop : tie.invariant-loop-end
 invariant-loop bytes from end₀ end = end + digit_count (drop end bytes) ≡ from + digit_count (drop from bytes)
 
-abbrev decreases-loop : tie.decreases-loop
+abbrev decreases-loop : tie.decreases-loop-end
 decreases-loop bytes from end₀ end = length bytes - end
 
-loop-holds : tie.Need-loop-init invariant-loop decreases-loop
+loop-holds : tie.Need-loop-end-init invariant-loop decreases-loop
 loop-holds c = refl
 
-shared-slice-read-is-digit : tie.Need-shared-slice-read-is-digit invariant-loop decreases-loop
+shared-slice-read-is-digit : tie.Need-bounds-bytes-end invariant-loop decreases-loop
 shared-slice-read-is-digit c = search rules
 
-is-digit-requires : tie.Need-is-digit-requires invariant-loop decreases-loop
+is-digit-requires : tie.Need-is_digit-requires invariant-loop decreases-loop
 is-digit-requires c κs = search rules
 
-add-end : tie.Need-overflow-add-end invariant-loop decreases-loop
+add-end : tie.Need-overflow_add-end invariant-loop decreases-loop
 add-end c = search rules
 
-loop-less : tie.Need-loop-smaller invariant-loop decreases-loop
+loop-less : tie.Need-loop-end-smaller invariant-loop decreases-loop
 loop-less c = search rules
 
-loop-again : tie.Need-loop-preserved invariant-loop decreases-loop
+loop-again : tie.Need-loop-end-preserved invariant-loop decreases-loop
 loop-again c =
-    let at = c.before.before.before.before in
-    digit_more _ _ c.before.before.before.loop-test.true (sym c.before.is_digit.ensures ∙ c.if1.true) ∙ at.loop.invariant
+    let at = c in
+    digit_more _ _ c.loop-end-test.true (sym c.is_digit.ensures ∙ c.if-is_digit.true) ∙ at.loop-end.invariant
 
-returns : tie.Need-returns invariant-loop decreases-loop
+returns : tie.Need-returns-else-is_digit invariant-loop decreases-loop
 unfolding digits_end
 returns c =
-    let at = c.before.before.before.before in
-    let none = sym c.before.is_digit.ensures ∙ c.if1.false in
-    let bytes = at.before.before.args.bytes.now in
-    sym (digit_none bytes at.loop.end c.before.before.before.loop-test.true none) ∙ at.loop.invariant
+    let at = c in
+    let none = sym c.is_digit.ensures ∙ c.if-is_digit.false in
+    let bytes = at.args.bytes.now in
+    sym (digit_none bytes at.loop-end.end c.loop-end-test.true none) ∙ at.loop-end.invariant
 
-returns-2 : tie.Need-returns-2 invariant-loop decreases-loop
+returns-2 : tie.Need-returns invariant-loop decreases-loop
 unfolding digits_end
 returns-2 c =
-    let at = c.before in
-    sym (digits_past at.before.before.args.bytes.now at.loop.end c.loop-test.false) ∙ at.loop.invariant
+    let at = c in
+    sym (digits_past at.args.bytes.now at.loop-end.end c.loop-end-test.false) ∙ at.loop-end.invariant
 
-pub digits-end-spec : {M : Type 1} → statement M
-digits-end-spec =
+pub digits_end_spec : {M : Type 1} → statement M
+digits_end_spec =
     tie.close
     (tie.spec
     invariant-loop

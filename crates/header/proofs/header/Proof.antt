@@ -5,28 +5,24 @@ use borrow.Author.Rules.{rules}
 use Rattle.header.proofs.header.Statement.{statement}
 use Rattle.header.proofs.header.Tie as tie
 
-slice-aggregate-begins-with : tie.Need-slice-aggregate-begins-with
-slice-aggregate-begins-with c = search rules
-
-begins-with-requires : tie.Need-begins-with-requires
+begins-with-requires : tie.Need-begins_with-requires
 begins-with-requires c κs = search rules
 
-numbers-at-requires : tie.Need-numbers-at-requires
+numbers-at-requires : tie.Need-numbers_at-requires
 numbers-at-requires c κs = search rules
 
-returns : tie.Need-returns
+returns : tie.Need-returns-then-begins_with
 unfolding header_of
-returns c = rw (sym c.before.before.begins-with.ensures ∙ c.before.if1.true) c.numbers-at.ensures
+returns c = rw (sym c.begins_with.ensures ∙ c.if-begins_with.true) c.numbers_at.ensures
 
-returns-2 : tie.Need-returns-2
+returns-2 : tie.Need-returns
 unfolding header_of
-returns-2 c = rw (sym c.before.begins-with.ensures ∙ c.if1.false)
+returns-2 c = rw (sym c.begins_with.ensures ∙ c.if-begins_with.false)
 
-pub header-spec : {M : Type 1} → statement M
-header-spec =
+pub header_spec : {M : Type 1} → statement M
+header_spec =
     tie.close
     (tie.spec
-    slice-aggregate-begins-with
     begins-with-requires
     numbers-at-requires
     returns

@@ -9,62 +9,62 @@ use borrow.Author.Rules.{rules}
 use Rattle.header.proofs.number.Statement.{statement}
 use Rattle.header.proofs.number.Tie as tie
 
-abbrev invariant-loop : tie.invariant-loop
+abbrev invariant-loop : tie.invariant-loop-k
 invariant-loop bytes from end value₀ k₀ value k =
     (from ≤ k)
     × (k ≤ end)
     × (value ≤ worth (k - from))
     × (value_at bytes k (end - k) value ≡ value_at bytes from (end - from) 0)
 
-abbrev decreases-loop : tie.decreases-loop
+abbrev decreases-loop : tie.decreases-loop-k
 decreases-loop bytes from end value₀ k₀ value k = end - k
 
-loop-holds : tie.Need-loop-init invariant-loop decreases-loop
-loop-holds c = (omega arith, c.before.requires.0, zero-le, refl)
+loop-holds : tie.Need-loop-k-init invariant-loop decreases-loop
+loop-holds c = (omega arith, c.requires.0, zero-le, refl)
 
-mul-value : tie.Need-overflow-mul-value invariant-loop decreases-loop
+mul-value : tie.Need-overflow_mul-value invariant-loop decreases-loop
 mul-value c =
-    let at = c.before in
-    omega (arith, worth_small (at.loop.k - at.before.before.args.from) (omega arith))
+    let at = c in
+    omega (arith, worth_small (at.loop-k.k - at.args.from) (omega arith))
 
-byte-at-requires : tie.Need-byte-at-requires invariant-loop decreases-loop
+byte-at-requires : tie.Need-byte_at-requires invariant-loop decreases-loop
 byte-at-requires c κs = search rules
 
-digit-of-requires : tie.Need-digit-of-requires invariant-loop decreases-loop
+digit-of-requires : tie.Need-digit_of-requires invariant-loop decreases-loop
 digit-of-requires c κs = search rules
 
-add-value : tie.Need-overflow-add-value invariant-loop decreases-loop
+add-value : tie.Need-overflow_add-value invariant-loop decreases-loop
 add-value c =
-    let at = c.before.before.before in
-    omega (arith, worth_small (at.loop.k - at.before.before.args.from) (omega arith))
+    let at = c in
+    omega (arith, worth_small (at.loop-k.k - at.args.from) (omega arith))
 
-add-k : tie.Need-overflow-add-k invariant-loop decreases-loop
+add-k : tie.Need-overflow_step-k invariant-loop decreases-loop
 add-k c = search rules
 
-loop-less : tie.Need-loop-smaller invariant-loop decreases-loop
+loop-less : tie.Need-loop-k-smaller invariant-loop decreases-loop
 loop-less c = search rules
 
-loop-again : tie.Need-loop-preserved invariant-loop decreases-loop
+loop-again : tie.Need-loop-k-preserved invariant-loop decreases-loop
 loop-again c =
-    let at = c.before.before.before in
-    let a = at.before.before.args in
-    let k = at.loop.k in
-    let v = at.loop.value in
-    let digit = c.digit-of.ensures.0 ∙ ap (λ (d : ℕ). d - 48) c.before.byte_at.ensures in (
+    let at = c in
+    let a = at.args in
+    let k = at.loop-k.k in
+    let v = at.loop-k.value in
+    let digit = c.digit_of.ensures.0 ∙ ap (λ (d : ℕ). d - 48) c.byte_at.ensures in (
       omega arith,
       omega arith,
-      worth_more a.from k v _ at.loop.invariant.0 at.loop.invariant.2 c.digit-of.ensures.1,
-      value_more a.bytes.now k a.end v _ c.before.before.loop-test.true digit ∙ at.loop.invariant.3,
+      worth_more a.from k v _ at.loop-k.invariant.0 at.loop-k.invariant.2 c.digit_of.ensures.1,
+      value_more a.bytes.now k a.end v _ c.loop-k-test.true digit ∙ at.loop-k.invariant.3,
     )
 
 returns : tie.Need-returns invariant-loop decreases-loop
 returns c =
-    let at = c.before in
-    let a = at.before.before.args in
-    sym (value_all a.bytes.now at.loop.k a.end at.loop.value c.loop-test.false) ∙ at.loop.invariant.3
+    let at = c in
+    let a = at.args in
+    sym (value_all a.bytes.now at.loop-k.k a.end at.loop-k.value c.loop-k-test.false) ∙ at.loop-k.invariant.3
 
-pub number-spec : {M : Type 1} → statement M
-number-spec =
+pub number_spec : {M : Type 1} → statement M
+number_spec =
     tie.close
     (tie.spec
     invariant-loop

@@ -9,77 +9,70 @@ use borrow.Author.Rules.{rules}
 use Rattle.header.proofs.numbers_at.Statement.{statement}
 use Rattle.header.proofs.numbers_at.Tie as tie
 
-abbrev at-start : tie.Then1 → tie.Start
-at-start c = c.before.before.before.before
+abbrev space : tie.Then-four_at_most → ℕ
+space c = c.digits_end-space.result
 
-abbrev at_first : tie.Then2 → tie.Then1
-at_first c = c.before.before.before
+abbrev feed : tie.Then-four_at_most-2 → ℕ
+feed c = c.digits_end-feed.result
 
--- where the two numbers end, and what the tests of them show
-abbrev space : tie.Then1 → ℕ
-space c = c.before.before.digits-end.result
+first : (c : tie.Then-four_at_most) → four_at_most c.args.bytes.now c.args.from (space c) 32 ≡ true
+first c = sym c.four_at_most.ensures ∙ c.if-four_at_most.true
 
-abbrev feed : tie.Then2 → ℕ
-feed c = c.before.before.digits-end2.result
+second : (c : tie.Then-four_at_most-2) → four_at_most c.args.bytes.now (space c.before.before.before + 1) (feed c) 10 ≡ true
+second c = sym c.four_at_most-then-four_at_most.ensures ∙ c.if-four_at_most-2.true
 
-first : (c : tie.Then1) → four_at_most (at-start c).args.bytes.now (at-start c).args.from (space c) 32 ≡ true
-first c = sym c.before.four-at-most.ensures ∙ c.if1.true
-
-second : (c : tie.Then2) → four_at_most (at-start (at_first c)).args.bytes.now (space (at_first c) + 1) (feed c) 10 ≡ true
-second c = sym c.before.four-at-most2.ensures ∙ c.if2.true
-
-digits-end-requires : tie.Need-digits-end-requires
+digits-end-requires : tie.Need-digits_end-space-requires
 digits-end-requires c κs = search rules
 
-four-at-most-requires : tie.Need-four-at-most-requires
+four-at-most-requires : tie.Need-four_at_most-requires
 four-at-most-requires c κs = search rules
 
-add-second : tie.Need-overflow-add-second
+add-second : tie.Need-overflow_add-second
 add-second c = omega (arith, (four_facts _ _ _ _ (first c)).1)
 
-digits-end-requires-2 : tie.Need-digits-end-requires-2
+digits-end-requires-2 : tie.Need-digits_end-feed-requires
 digits-end-requires-2 c κs = search rules
 
-four-at-most-requires-2 : tie.Need-four-at-most-requires-2
+four-at-most-requires-2 : tie.Need-four_at_most-requires-then-four_at_most
 four-at-most-requires-2 c κs = omega (arith, (four_facts _ _ _ _ (first c.before)).1)
 
 number-requires : tie.Need-number-requires
 number-requires c κs =
-    let f = four_facts _ _ _ _ (first (at_first c)) in
+    let f = four_facts _ _ _ _ (first c.before.before.before) in
     (omega (arith, f.0), f.1)
 
-number-requires-2 : tie.Need-number-requires-2
+number-requires-2 : tie.Need-number-requires-then-four_at_most-2
 number-requires-2 c κs =
     let f = four_facts _ _ _ _ (second c.before) in
     (omega (arith, f.0), f.1)
 
-add-sized-of : tie.Need-overflow-add-sized-of
+add-sized-of : tie.Need-overflow_add-feed
 add-sized-of c =
-    let both = c.before.before in
-    omega (arith, (four_facts _ _ _ _ (first (at_first both))).1, (four_facts _ _ _ _ (second both)).1)
+    let both = c in
+    omega (arith, (four_facts _ _ _ _ (first c.before.before.before.before.before)).1, (four_facts _ _ _ _ (second c.before.before)).1)
 
-sized-of-requires : tie.Need-sized-of-requires
+sized-of-requires : tie.Need-sized_of-requires
 sized-of-requires c κs = search rules
 
-returns : tie.Need-returns
+returns : tie.Need-returns-then-four_at_most-2
 returns c =
-    let both = c.before.before.before in
-    let one = at_first both in
-    c.Sized-of.ensures
-    ∙ rw (c.before.before.number.ensures, c.before.number2.ensures)
-    (both_good _ _ _ one.before.before.digits-end.ensures (first one) _ both.before.before.digits-end2.ensures (second both))
+    let both = c in
+    let one = c in
+    c.sized_of.ensures
+    ∙ rw (c.number.ensures, c.number-then-four_at_most-2.ensures)
+    (both_good _ _ _ one.digits_end-space.ensures (first c.before.before.before.before.before.before) _ both.digits_end-feed.ensures (second c.before.before.before))
 
-returns-2 : tie.Need-returns-2
+returns-2 : tie.Need-returns-else-four_at_most-2
 returns-2 c =
-    let one = c.before.before.before in
-    second_bad _ _ _ one.before.before.digits-end.ensures (first one) _ c.before.before.digits-end2.ensures
-    (sym c.before.four-at-most2.ensures ∙ c.if2.false)
+    let one = c in
+    second_bad _ _ _ one.digits_end-space.ensures (first c.before.before.before) _ c.digits_end-feed.ensures
+    (sym c.four_at_most-then-four_at_most.ensures ∙ c.if-four_at_most-2.false)
 
-returns-3 : tie.Need-returns-3
-returns-3 c = first_bad _ _ _ c.before.before.digits-end.ensures (sym c.before.four-at-most.ensures ∙ c.if1.false)
+returns-3 : tie.Need-returns-else-four_at_most
+returns-3 c = first_bad _ _ _ c.digits_end-space.ensures (sym c.four_at_most.ensures ∙ c.if-four_at_most.false)
 
-pub numbers-at-spec : {M : Type 1} → statement M
-numbers-at-spec =
+pub numbers_at_spec : {M : Type 1} → statement M
+numbers_at_spec =
     tie.close
     (tie.spec
     digits-end-requires

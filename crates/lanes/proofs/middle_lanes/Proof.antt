@@ -11,61 +11,55 @@ use borrow.Author.Rules.{rules}
 use Rattle.lanes.proofs.middle_lanes.Statement.{statement}
 use Rattle.lanes.proofs.middle_lanes.Tie as tie
 
-abbrev invariant-loop : tie.invariant-loop
+abbrev invariant-loop : tie.invariant-loop-i
 invariant-loop st out₀ i₀ i-end out i =
     (i ≤ length out₀) × (i-end ≡ length out₀) × AtFront (tab i (λ j. get_or st (8192 + j) 0 - 5)) out₀ out
 
-abbrev decreases-loop : tie.decreases-loop
+abbrev decreases-loop : tie.decreases-loop-i
 decreases-loop st out₀ i₀ i-end out i = length out₀ - i
 
 -- the places that the others follow
-abbrev at-start : tie.At-loop invariant-loop decreases-loop → tie.Start invariant-loop decreases-loop
-at-start c = c.before.before
-
-abbrev at-loop : tie.After-above-arg invariant-loop decreases-loop → tie.At-loop invariant-loop decreases-loop
-at-loop c = c.before.before
-
-loop-holds : tie.Need-loop-init invariant-loop decreases-loop
+loop-holds : tie.Need-loop-i-init invariant-loop decreases-loop
 loop-holds c = (omega arith, refl, front_none)
 
-add-above : tie.Need-overflow-add-above invariant-loop decreases-loop
+add-above : tie.Need-overflow_add-i invariant-loop decreases-loop
 add-above c = search rules
 
-mul-above : tie.Need-overflow-mul-above invariant-loop decreases-loop
+mul-above : tie.Need-offset_bounds-st-i invariant-loop decreases-loop
 mul-above c = search rules
 
-element-copy-out-above : tie.Need-element-copy-out-above invariant-loop decreases-loop
+element-copy-out-above : tie.Need-bounds-st-i invariant-loop decreases-loop
 element-copy-out-above c = search rules
 
 above-requires : tie.Need-above-requires invariant-loop decreases-loop
-above-requires c κs = (at-start (at-loop c)).pre.1 _ (omega arith)
+above-requires c κs = c.requires.1 _ (omega arith)
 
-mul-out : tie.Need-overflow-mul-out invariant-loop decreases-loop
+mul-out : tie.Need-offset_bounds-out-i invariant-loop decreases-loop
 mul-out c = search rules
 
-slice-write-out : tie.Need-slice-write-out invariant-loop decreases-loop
+slice-write-out : tie.Need-bounds-out-i invariant-loop decreases-loop
 slice-write-out c = search rules
 
-add-i : tie.Need-overflow-add-i invariant-loop decreases-loop
+add-i : tie.Need-overflow_step-i invariant-loop decreases-loop
 add-i c = search rules
 
-loop-less : tie.Need-loop-smaller invariant-loop decreases-loop
+loop-less : tie.Need-loop-i-smaller invariant-loop decreases-loop
 loop-less c = search rules
 
-loop-again : tie.Need-loop-preserved invariant-loop decreases-loop
-loop-again c = (omega arith, refl, front_more _ _ (at-loop c.before).loop.inv.2 (omega arith) c.above.ensures)
+loop-again : tie.Need-loop-i-preserved invariant-loop decreases-loop
+loop-again c = (omega arith, refl, front_more _ _ c.loop-i.invariant.2 (omega arith) c.above.ensures)
 
-same_length : tie.Need-same-length invariant-loop decreases-loop
+same_length : tie.Need-shape_of-out invariant-loop decreases-loop
 same_length c = search rules
 
 returns : tie.Need-returns invariant-loop decreases-loop
 returns c =
-    let l = c.before.loop in
-    let e : l.i ≡ length (at-start c.before).args.out.now = omega arith in
+    let l = c.loop-i in
+    let e : l.i ≡ length c.args.out.now = omega arith in
     front_all (rw e at l.invariant.2) (length_tab_from 0 _ _)
 
-pub middle-lanes-spec : {M : Type 1} → statement M
-middle-lanes-spec =
+pub middle_lanes_spec : {M : Type 1} → statement M
+middle_lanes_spec =
     tie.close
     (tie.spec
     invariant-loop

@@ -24,15 +24,15 @@ returns c n cost l h =
     let v = c.before.before.before.before.before.args.v in
     rw (
       c.before.before.before.before.best.ensures,
-      c.before.before.before.best2.ensures,
-      c.before.before.best3.ensures,
-      c.before.best4.ensures,
-      c.best5.ensures,
+      c.before.before.before.best-2.ensures,
+      c.before.before.best-3.ensures,
+      c.before.best-4.ensures,
+      c.best-5.ensures,
     )
     (sideways_holds v n cost l h)
 
-pub sideways-spec : {M : Type 1} → statement M
-sideways-spec =
+pub sideways_spec : {M : Type 1} → statement M
+sideways_spec =
     tie.close
     (tie.spec
     best-requires

@@ -15,13 +15,13 @@ at-start c = c.before.before.before.before
 abbrev at-started : tie.After-sweep → tie.After-starts
 at-started c = c.before.before
 
-abbrev at-swept : tie.After-middle-lanes-arg → tie.After-sweep
+abbrev at-swept : tie.After-middle_lanes-arg-1 → tie.After-sweep
 at-swept c = c.before.before
 
 starts-requires : tie.Need-starts-requires
 starts-requires c κs = search rules
 
-sub-sweep : tie.Need-overflow-sub-sweep
+sub-sweep : tie.Need-overflow_sub-to
 sub-sweep c = search rules
 
 sweep-requires : tie.Need-sweep-requires
@@ -31,20 +31,20 @@ sweep-requires c κs =
     let e : a.from + (a.to - a.from) ≡ a.to = omega arith in
     (p.2, rw e p.1, rw e p.3, p.4, c.before.starts.ensures _ _ _)
 
-middle-lanes-requires : tie.Need-middle-lanes-requires
+middle-lanes-requires : tie.Need-middle_lanes-requires
 middle-lanes-requires c κs =
     let p = (at-start (at-started (at-swept c))).requires in
     (p.2, λ i h. (middle_score _ _ _ _ _ _ (at-swept c).sweep.ensures i h).0)
 
-same_length : tie.Need-same-length
+same_length : tie.Need-shape_of-out
 same_length c = search rules
 
 returns : tie.Need-returns
 returns c =
     let lanes = c.before.before in
-    lanes.middle-lanes.ensures ∙ tab_same _ _ _ (λ i h. (middle_score _ _ _ _ _ _ (at-swept lanes.before).sweep.ensures i h).1)
+    lanes.middle_lanes.ensures ∙ tab_same _ _ _ (λ i h. (middle_score _ _ _ _ _ _ (at-swept lanes.before).sweep.ensures i h).1)
 
-pub sweep-scores-spec : {M : Type 1} → statement M
-sweep-scores-spec =
+pub sweep_scores_spec : {M : Type 1} → statement M
+sweep_scores_spec =
     tie.close
     (tie.spec starts-requires sub-sweep sweep-requires middle-lanes-requires same_length returns)

@@ -4,14 +4,14 @@ use borrow.Author.Rules.{rules}
 use Rattle.lines.proofs.balanced.Statement.{statement}
 use Rattle.lines.proofs.balanced.Tie as tie
 
-returns : tie.Need-returns
-returns c = rw (eq-eqb _ _ c.if1.true)
+returns : tie.Need-returns-then-before-after
+returns c = rw (eq-eqb _ _ c.if-before-after.true)
 
-add-result : tie.Need-overflow-add-result
+add-result : tie.Need-overflow_add-result
 add-result c = search rules
 
-returns-2 : tie.Need-returns-2
-returns-2 c = rw (ne_eqb _ _ c.if1.false)
+returns-2 : tie.Need-returns
+returns-2 c = rw (ne_eqb _ _ c.if-before-after.false)
 
-pub balanced-spec : {M : Type 1} → statement M
-balanced-spec = tie.close (tie.spec returns add-result returns-2)
+pub balanced_spec : {M : Type 1} → statement M
+balanced_spec = tie.close (tie.spec returns add-result returns-2)

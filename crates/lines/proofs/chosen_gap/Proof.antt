@@ -6,17 +6,17 @@ use borrow.Author.Rules.{rules}
 use Rattle.lines.proofs.chosen_gap.Statement.{statement}
 use Rattle.lines.proofs.chosen_gap.Tie as tie
 
-int-to-float-trunc : tie.Need-int-to-float-trunc
-int-to-float-trunc c = in_float_lem (omega (arith, c.before.before.requires.0))
+int-to-float-trunc : tie.Need-int_to_float-d
+int-to-float-trunc c = in_float_lem (omega (arith, c.requires.0))
 
-trunc-requires : tie.Need-trunc-requires
+trunc-requires : tie.Need-trunc-j-requires
 trunc-requires c κs = search rules
 
-entry-of-requires : tie.Need-entry-of-requires
-entry-of-requires c κs = let at = c.before.before.before in (omega (arith, at.requires.0), all_counted at.args.d.now _ at.requires.1)
+entry-of-requires : tie.Need-entry_of-requires
+entry-of-requires c κs = let at = c in (omega (arith, at.requires.0), all_counted at.args.d.now _ at.requires.1)
 
 returns : tie.Need-returns
-returns c = rw (c.entry_of.ensures, c.before.trunc.ensures)
+returns c = rw (c.entry_of.ensures, c.trunc-j.ensures)
 
-pub chosen-gap-spec : {M : Type 1} → statement M
-chosen-gap-spec = tie.close (tie.spec int-to-float-trunc trunc-requires entry-of-requires returns)
+pub chosen_gap_spec : {M : Type 1} → statement M
+chosen_gap_spec = tie.close (tie.spec int-to-float-trunc trunc-requires entry-of-requires returns)

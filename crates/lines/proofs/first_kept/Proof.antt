@@ -6,23 +6,23 @@ use borrow.Author.Rules.{rules}
 use Rattle.lines.proofs.first_kept.Statement.{statement}
 use Rattle.lines.proofs.first_kept.Tie as tie
 
-returns : tie.Need-returns
-returns c = (omega arith, first_alone _ _ c.if1.true)
+returns : tie.Need-returns-then-lines-lt2
+returns c = (omega arith, first_alone _ _ c.if-lines-lt2.true)
 
-narrow-after-requires : tie.Need-narrow-after-requires
+narrow-after-requires : tie.Need-narrow_after-requires
 narrow-after-requires c κs = search rules
 
-returns-2 : tie.Need-returns-2
+returns-2 : tie.Need-returns-then-narrow_after
 returns-2 c =
-    let a = c.before.before.before.before.args in
-    let t = first_tested a.e a.lines.now c.before.before.if1.false in
-    (omega arith, rw (t, sym c.before.narrow-after.ensures ∙ c.if2.true))
+    let a = c.args in
+    let t = first_tested a.e a.lines.now c.if-lines-lt2.false in
+    (omega arith, rw (t, sym c.narrow_after.ensures ∙ c.if-narrow_after.true))
 
-returns-3 : tie.Need-returns-3
+returns-3 : tie.Need-returns-else-narrow_after
 returns-3 c =
-    let a = c.before.before.before.before.args in
-    let t = first_tested a.e a.lines.now c.before.before.if1.false in
-    (omega arith, rw (t, sym c.before.narrow-after.ensures ∙ c.if2.false))
+    let a = c.args in
+    let t = first_tested a.e a.lines.now c.if-lines-lt2.false in
+    (omega arith, rw (t, sym c.narrow_after.ensures ∙ c.if-narrow_after.false))
 
-pub first-kept-spec : {M : Type 1} → statement M
-first-kept-spec = tie.close (tie.spec returns narrow-after-requires returns-2 returns-3)
+pub first_kept_spec : {M : Type 1} → statement M
+first_kept_spec = tie.close (tie.spec returns narrow-after-requires returns-2 returns-3)

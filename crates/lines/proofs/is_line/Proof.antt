@@ -7,44 +7,41 @@ use borrow.Author.Rules.{rules}
 use Rattle.lines.proofs.is_line.Statement.{statement}
 use Rattle.lines.proofs.is_line.Tie as tie
 
-abbrev start : tie.After-row-known → tie.Start
-start c = c.before.before.before
-
-mul-v : tie.Need-overflow-mul-v
+mul-v : tie.Need-offset_bounds-t-i
 mul-v c = search rules
 
-shared-slice-read-v : tie.Need-shared-slice-read-v
+shared-slice-read-v : tie.Need-bounds-t-i
 shared-slice-read-v c = search rules
 
-int-to-float-if1 : tie.Need-int-to-float-if1
-int-to-float-if1 c = let at = start c in in_float_lem (omega (arith, at.pre.1, largest_at at.args.t.now at.args.i))
+int-to-float-if1 : tie.Need-int_to_float-v
+int-to-float-if1 c = let at = c in in_float_lem (omega (arith, at.requires.1, largest_at at.args.t.now at.args.i))
 
-seven-before-requires : tie.Need-seven-before-requires
+seven-before-requires : tie.Need-seven_before-requires
 seven-before-requires c κs = search rules
 
-seven-behind-requires : tie.Need-seven-behind-requires
+seven-behind-requires : tie.Need-seven_behind-requires
 seven-behind-requires c κs = search rules
 
-stands-out-requires : tie.Need-stands-out-requires
+stands-out-requires : tie.Need-stands_out-requires
 stands-out-requires c κs =
-    let a = (start c.before.before.before).args in
+    let a = c.args in
     rw
-    (c.before.seven-before.ensures, c.seven-behind.ensures)
+    (c.seven_before.ensures, c.seven_behind.ensures)
     (before_short a.t.now a.i, behind_short a.t.now a.i)
 
-returns : tie.Need-returns
+returns : tie.Need-returns-then-v-th
 unfolding is_line
 returns c =
-    let behind = c.before in
-    let before = behind.before in
-    rw (before.before.if1.true, c.stands-out.ensures, before.seven-before.ensures, behind.seven-behind.ensures)
+    let behind = c in
+    let before = c in
+    rw (before.if-v-th.true, c.stands_out.ensures, before.seven_before.ensures, behind.seven_behind.ensures)
 
-returns-2 : tie.Need-returns-2
+returns-2 : tie.Need-returns
 unfolding is_line
-returns-2 c = rw c.if1.false
+returns-2 c = rw c.if-v-th.false
 
-pub is-line-spec : {M : Type 1} → statement M
-is-line-spec =
+pub is_line_spec : {M : Type 1} → statement M
+is_line_spec =
     tie.close
     (tie.spec
     mul-v

@@ -7,28 +7,28 @@ use borrow.Author.Rules.{rules}
 use Rattle.lines.proofs.last_kept.Statement.{statement}
 use Rattle.lines.proofs.last_kept.Tie as tie
 
-returns : tie.Need-returns
+returns : tie.Need-returns-then-n-lt2
 returns c =
-    let a = c.before.before.args in
-    (omega arith, take-length a.lines.now ∙ last_alone a.e a.lines.now c.if1.true)
+    let a = c.args in
+    (omega arith, take-length a.lines.now ∙ last_alone a.e a.lines.now c.if-n-lt2.true)
 
-narrow-after-requires : tie.Need-narrow-after-requires
+narrow-after-requires : tie.Need-narrow_after-requires
 narrow-after-requires c κs = search rules
 
-sub-result : tie.Need-overflow-sub-result
+sub-result : tie.Need-overflow_sub-result
 sub-result c = search rules
 
-returns-2 : tie.Need-returns-2
+returns-2 : tie.Need-returns-then-narrow_after
 returns-2 c =
-    let a = c.before.before.before.before.args in
-    let t = last-tested a.e a.lines.now c.before.before.if1.false in
-    (omega arith, rw (t, sym c.before.narrow-after.ensures ∙ c.if2.true))
+    let a = c.args in
+    let t = last-tested a.e a.lines.now c.if-n-lt2.false in
+    (omega arith, rw (t, sym c.narrow_after.ensures ∙ c.if-narrow_after.true))
 
-returns-3 : tie.Need-returns-3
+returns-3 : tie.Need-returns-else-narrow_after
 returns-3 c =
-    let a = c.before.before.before.before.args in
-    let t = last-tested a.e a.lines.now c.before.before.if1.false in
-    (omega arith, rw (t, sym c.before.narrow-after.ensures ∙ c.if2.false) (take-length _))
+    let a = c.args in
+    let t = last-tested a.e a.lines.now c.if-n-lt2.false in
+    (omega arith, rw (t, sym c.narrow_after.ensures ∙ c.if-narrow_after.false) (take-length _))
 
-pub last-kept-spec : {M : Type 1} → statement M
-last-kept-spec = tie.close (tie.spec returns narrow-after-requires sub-result returns-2 returns-3)
+pub last_kept_spec : {M : Type 1} → statement M
+last_kept_spec = tie.close (tie.spec returns narrow-after-requires sub-result returns-2 returns-3)

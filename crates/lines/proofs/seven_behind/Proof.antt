@@ -7,47 +7,47 @@ use borrow.Author.Rules.{rules}
 use Rattle.lines.proofs.seven_behind.Statement.{statement}
 use Rattle.lines.proofs.seven_behind.Tie as tie
 
-add-from : tie.Need-overflow-add-from
+add-from : tie.Need-overflow_add-from
 add-from c = search rules
 
-sub-if1 : tie.Need-overflow-sub-if1
+sub-if1 : tie.Need-overflow_sub-t
 sub-if1 c = search rules
 
-mul-result : tie.Need-overflow-mul-result
+mul-result : tie.Need-offset_bounds-t-from
 mul-result c = search rules
 
-sub-result : tie.Need-overflow-sub-result
+sub-result : tie.Need-slice_bounds-result-count
 sub-result c = search rules
 
-part-result-start : tie.Need-slice-bounds-result-start
+part-result-start : tie.Need-slice_bounds-result-start
 part-result-start c = search rules
 
-part-result-end : tie.Need-slice-bounds-result-end
+part-result-end : tie.Need-slice_bounds-result-end
 part-result-end c = search rules
 
-returns : tie.Need-returns
-returns c = behind_all _ c.before.before.args.i (omega arith)
+returns : tie.Need-returns-then-t-from-lt7
+returns c = behind_all _ c.args.i (omega arith)
 
-add-end : tie.Need-overflow-add-end
+add-end : tie.Need-overflow_add-end
 add-end c = search rules
 
-mul-result-2 : tie.Need-overflow-mul-result-2
+mul-result-2 : tie.Need-offset_bounds-t-from-2
 mul-result-2 c = search rules
 
-sub-result-2 : tie.Need-overflow-sub-result-2
+sub-result-2 : tie.Need-slice_bounds-result-count-2
 sub-result-2 c = search rules
 
-part-result-start-2 : tie.Need-slice-bounds-result-start-2
+part-result-start-2 : tie.Need-slice_bounds-result-start-2
 part-result-start-2 c = search rules
 
-part-result-end-2 : tie.Need-slice-bounds-result-end-2
+part-result-end-2 : tie.Need-slice_bounds-result-end-2
 part-result-end-2 c = search rules
 
-returns-2 : tie.Need-returns-2
-returns-2 c = let e : c.before.before.args.i + 1 + 7 - (c.before.before.args.i + 1) ≡ 7 = omega arith in rw e
+returns-2 : tie.Need-returns
+returns-2 c = let e : c.args.i + 1 + 7 - (c.args.i + 1) ≡ 7 = omega arith in rw e
 
-pub seven-behind-spec : {M : Type 1} → statement M
-seven-behind-spec =
+pub seven_behind_spec : {M : Type 1} → statement M
+seven_behind_spec =
     tie.close
     (tie.spec
     add-from

@@ -7,57 +7,53 @@ use borrow.Author.Rules.{rules}
 use Rattle.lines.proofs.smooth_at.Statement.{statement}
 use Rattle.lines.proofs.smooth_at.Tie as tie
 
-abbrev start : tie.After-largest-of-four2 → tie.Start
-start c = c.before.before.before.before
-
--- the largest of the four before and of the four after are scores
-low-before : (c : tie.After-largest-of-four2) → c.before.largest-of-four.result ≤ 4096
+low-before : (c : tie.After-largest_of_four-2) → c.largest_of_four.result ≤ 4096
 low-before c =
-    let at = start c in
-    omega (arith, c.before.largest-of-four.ensures, largest_part 4 (at.args.i - 4) at.args.s.now, at.pre.2)
+    let at = c in
+    omega (arith, c.largest_of_four.ensures, largest_part 4 (at.args.i - 4) at.args.s.now, at.requires.2)
 
-low-after : (c : tie.After-largest-of-four2) → c.largest-of-four2.result ≤ 4096
+low-after : (c : tie.After-largest_of_four-2) → c.largest_of_four-2.result ≤ 4096
 low-after c =
-    let at = start c in
-    omega (arith, c.largest-of-four2.ensures, largest_part 4 (at.args.i + 1) at.args.s.now, at.pre.2)
+    let at = c in
+    omega (arith, c.largest_of_four-2.ensures, largest_part 4 (at.args.i + 1) at.args.s.now, at.requires.2)
 
-mul-larger-score : tie.Need-overflow-mul-larger-score
+mul-larger-score : tie.Need-offset_bounds-s-i
 mul-larger-score c = search rules
 
-shared-slice-read-larger-score : tie.Need-shared-slice-read-larger-score
+shared-slice-read-larger-score : tie.Need-bounds-s-i
 shared-slice-read-larger-score c = search rules
 
-sub-largest-of-four : tie.Need-overflow-sub-largest-of-four
+sub-largest-of-four : tie.Need-overflow_sub-i
 sub-largest-of-four c = search rules
 
-largest-of-four-requires : tie.Need-largest-of-four-requires
+largest-of-four-requires : tie.Need-largest_of_four-requires
 largest-of-four-requires c κs = search rules
 
-add-largest-of-four : tie.Need-overflow-add-largest-of-four
+add-largest-of-four : tie.Need-overflow_add-i
 add-largest-of-four c = search rules
 
-largest-of-four-requires-2 : tie.Need-largest-of-four-requires-2
+largest-of-four-requires-2 : tie.Need-largest_of_four-requires-2
 largest-of-four-requires-2 c κs = search rules
 
-smaller-score-requires : tie.Need-smaller-score-requires
+smaller-score-requires : tie.Need-smaller_score-requires
 smaller-score-requires c κs = (low-before c, low-after c)
 
-larger-score-requires : tie.Need-larger-score-requires
+larger-score-requires : tie.Need-larger_score-requires
 larger-score-requires c κs =
-    let at = start c.before in (
-      omega (arith, largest_at at.args.s.now at.args.i, at.pre.2),
-      omega (arith, c.smaller-score.ensures, low-before c.before, low-after c.before),
+    let at = c in (
+      omega (arith, largest_at at.args.s.now at.args.i, at.requires.2),
+      omega (arith, c.smaller_score.ensures, low-before c.before, low-after c.before),
     )
 
 returns : tie.Need-returns
 returns c =
-    let p = (start c.before.before).requires in
-    let before = c.before.before.before.largest-of-four.ensures in
-    let behind = c.before.before.largest-of-four2.ensures in
-    rw (inner _ _ p.0 p.1, c.larger-score.ensures, c.before.smaller-score.ensures, before, behind)
+    let p = c.requires in
+    let before = c.largest_of_four.ensures in
+    let behind = c.largest_of_four-2.ensures in
+    rw (inner _ _ p.0 p.1, c.larger_score.ensures, c.smaller_score.ensures, before, behind)
 
-pub smooth-at-spec : {M : Type 1} → statement M
-smooth-at-spec =
+pub smooth_at_spec : {M : Type 1} → statement M
+smooth_at_spec =
     tie.close
     (tie.spec
     mul-larger-score

@@ -14,68 +14,62 @@ use borrow.Author.Rules.{rules}
 use Rattle.lines.proofs.smooth_into.Statement.{statement}
 use Rattle.lines.proofs.smooth_into.Tie as tie
 
-abbrev invariant-loop : tie.invariant-loop
+abbrev invariant-loop : tie.invariant-loop-i
 invariant-loop s t₀ end i₀ t i = (4 ≤ i) × (i ≤ max 4 (length s - 4)) × (end ≡ length s - 4) × AtFront (tab i (smoothed s)) t₀ t
 
-abbrev decreases-loop : tie.decreases-loop
+abbrev decreases-loop : tie.decreases-loop-i
 decreases-loop s t₀ end i₀ t i = length s - i
 
 -- the places that the others follow, and the list
-abbrev start : tie.After-copy-u32 invariant-loop decreases-loop → tie.Start invariant-loop decreases-loop
-start c = c.before.before.before.before
+abbrev list : tie.After-copy_u32 invariant-loop decreases-loop → List ℕ
+list c = c.args.s.now
 
-abbrev at_copy : tie.At-loop invariant-loop decreases-loop → tie.After-copy-u32 invariant-loop decreases-loop
-at_copy c = c.before.before.before
+copied : (c : tie.After-copy_u32 invariant-loop decreases-loop) → AtFront (list c) c.args.t.now c.copy_u32.new.to
+copied c = rw (take-length (list c)) at c.copy_u32.ensures
 
-abbrev list : tie.After-copy-u32 invariant-loop decreases-loop → List ℕ
-list c = (start c).args.s.now
-
-copied : (c : tie.After-copy-u32 invariant-loop decreases-loop) → AtFront (list c) (start c).args.t.now c.copy-u32.new.1.1.0
-copied c = rw (take-length (list c)) at c.copy-u32.ensures
-
-copy-u32-requires : tie.Need-copy-u32-requires invariant-loop decreases-loop
+copy-u32-requires : tie.Need-copy_u32-requires invariant-loop decreases-loop
 copy-u32-requires c κs = search rules
 
-sub-end : tie.Need-overflow-sub-end invariant-loop decreases-loop
+sub-end : tie.Need-overflow_sub-end invariant-loop decreases-loop
 sub-end c = search rules
 
-loop-holds : tie.Need-loop-init invariant-loop decreases-loop
+loop-holds : tie.Need-loop-i-init invariant-loop decreases-loop
 loop-holds c =
-    let at = c.before.before in
-    (omega arith, omega arith, refl, smooth_begun (list at) (copied at) (start at).requires.0)
+    let at = c in
+    (omega arith, omega arith, refl, smooth_begun (list c.before.before) (copied c.before.before) at.requires.0)
 
-smooth-at-requires : tie.Need-smooth-at-requires invariant-loop decreases-loop
+smooth-at-requires : tie.Need-smooth_at-requires invariant-loop decreases-loop
 smooth-at-requires c κs = search rules
 
-mul-t : tie.Need-overflow-mul-t invariant-loop decreases-loop
+mul-t : tie.Need-offset_bounds-t-i invariant-loop decreases-loop
 mul-t c = search rules
 
-slice-write-t : tie.Need-slice-write-t invariant-loop decreases-loop
+slice-write-t : tie.Need-bounds-t-i invariant-loop decreases-loop
 slice-write-t c = search rules
 
-add-i : tie.Need-overflow-add-i invariant-loop decreases-loop
+add-i : tie.Need-overflow_step-i invariant-loop decreases-loop
 add-i c = search rules
 
-loop-less : tie.Need-loop-smaller invariant-loop decreases-loop
+loop-less : tie.Need-loop-i-smaller invariant-loop decreases-loop
 loop-less c = search rules
 
-loop-again : tie.Need-loop-preserved invariant-loop decreases-loop
+loop-again : tie.Need-loop-i-preserved invariant-loop decreases-loop
 loop-again c =
-    let at = c.before.before in
-    let i = at.loop.invariant in
-    (omega arith, omega arith, i.2, front_more (smoothed (list (at_copy at))) at.loop.i i.3 (omega arith) c.smooth-at.ensures)
+    let at = c in
+    let i = at.loop-i.invariant in
+    (omega arith, omega arith, i.2, front_more (smoothed (list c.before.before.before.before.before)) at.loop-i.i i.3 (omega arith) c.smooth_at.ensures)
 
-same_length : tie.Need-same-length invariant-loop decreases-loop
+same_length : tie.Need-shape_of-t invariant-loop decreases-loop
 same_length c = search rules
 
 returns : tie.Need-returns invariant-loop decreases-loop
 returns c =
-    let i = c.before.loop.invariant in
-    let at = at_copy c.before in
-    smooth_ended (list at) (copied at) i.3 i.0 (omega arith) (omega arith)
+    let i = c.loop-i.invariant in
+    let at = c in
+    smooth_ended (list c.before.before.before.before) (copied c.before.before.before.before) i.3 i.0 (omega arith) (omega arith)
 
-pub smooth-into-spec : {M : Type 1} → statement M
-smooth-into-spec =
+pub smooth_into_spec : {M : Type 1} → statement M
+smooth_into_spec =
     tie.close
     (tie.spec
     invariant-loop

@@ -13,81 +13,78 @@ use borrow.Author.Rules.{rules}
 use Rattle.lines.proofs.wide_gaps.Statement.{statement}
 use Rattle.lines.proofs.wide_gaps.Tie as tie
 
-abbrev invariant-loop : tie.invariant-loop
+abbrev invariant-loop : tie.invariant-loop-k
 invariant-loop lines out₀ n₀ k₀ k-end out n k =
     (1 ≤ k) × (k ≤ max 1 (length lines)) × (n + 1 ≤ k) × (k-end ≡ length lines) × Collected (wide_gaps lines) (gaps_from k lines) n out₀ out
 
-abbrev decreases-loop : tie.decreases-loop
+abbrev decreases-loop : tie.decreases-loop-k
 decreases-loop lines out₀ n₀ k₀ k-end out n k = length lines - k
 
-abbrev start : tie.At-loop invariant-loop decreases-loop → tie.Start invariant-loop decreases-loop
-start c = c.before.before.before
-
-loop-holds : tie.Need-loop-init invariant-loop decreases-loop
+loop-holds : tie.Need-loop-k-init invariant-loop decreases-loop
 loop-holds c = (omega arith, omega arith, omega arith, refl, collected_none)
 
-sub-gap : tie.Need-overflow-sub-gap invariant-loop decreases-loop
+sub-gap : tie.Need-overflow_sub-k invariant-loop decreases-loop
 sub-gap c = search rules
 
-mul-gap : tie.Need-overflow-mul-gap invariant-loop decreases-loop
+mul-gap : tie.Need-offset_bounds-lines-k invariant-loop decreases-loop
 mul-gap c = search rules
 
-shared-slice-read-gap : tie.Need-shared-slice-read-gap invariant-loop decreases-loop
+shared-slice-read-gap : tie.Need-bounds-lines-k invariant-loop decreases-loop
 shared-slice-read-gap c = search rules
 
-mul-gap-2 : tie.Need-overflow-mul-gap-2 invariant-loop decreases-loop
+mul-gap-2 : tie.Need-offset_bounds-lines-k-in-loop-k invariant-loop decreases-loop
 mul-gap-2 c = search rules
 
-shared-slice-read-gap-2 : tie.Need-shared-slice-read-gap-2 invariant-loop decreases-loop
+shared-slice-read-gap-2 : tie.Need-bounds-lines-k-in-loop-k invariant-loop decreases-loop
 shared-slice-read-gap-2 c = search rules
 
-gap-requires : tie.Need-gap-requires invariant-loop decreases-loop
+gap-requires : tie.Need-gap-g-requires invariant-loop decreases-loop
 gap-requires c κs = search rules
 
-mul-out : tie.Need-overflow-mul-out invariant-loop decreases-loop
+mul-out : tie.Need-offset_bounds-out-n invariant-loop decreases-loop
 mul-out c = search rules
 
-slice-write-out : tie.Need-slice-write-out invariant-loop decreases-loop
+slice-write-out : tie.Need-bounds-out-n invariant-loop decreases-loop
 slice-write-out c = search rules
 
-add-n : tie.Need-overflow-add-n invariant-loop decreases-loop
+add-n : tie.Need-overflow_add-n invariant-loop decreases-loop
 add-n c = search rules
 
-add-k : tie.Need-overflow-add-k invariant-loop decreases-loop
+add-k : tie.Need-overflow_step-k invariant-loop decreases-loop
 add-k c = search rules
 
-loop-less : tie.Need-loop-smaller invariant-loop decreases-loop
+loop-less : tie.Need-loop-k-smaller invariant-loop decreases-loop
 loop-less c = search rules
 
-loop-again : tie.Need-loop-preserved invariant-loop decreases-loop
+loop-again : tie.Need-loop-k-preserved invariant-loop decreases-loop
 loop-again c =
-    let from = c.before.before.before.before.before in
-    let at = from.loop in
+    let from = c in
+    let at = from.loop-k in
     let i = at.invariant in
-    let g = c.before.gap.result in
-    let l = (start from).args.lines.now in
-    let next = wide_next at.k g l (omega arith) (omega arith) c.before.gap.ensures in
+    let g = c.gap-g.result in
+    let l = from.args.lines.now in
+    let next = wide_next at.k g l (omega arith) (omega arith) c.gap-g.ensures in
     ⊎_elim
     (λ w. (
       omega arith,
       omega arith,
-      omega (arith, w.2),
+      omega (arith, w.n-is),
       i.3,
-      rw (w.1, w.2) (collected-kept g i.4 next (lt-ltb 5 g w.0.taken) (omega arith)),
+      rw (w.out-is, w.n-is) (collected-kept g i.4 next (lt-ltb 5 g w.if-g-gt5.true) (omega arith)),
     ))
-    (λ w. (omega arith, omega arith, omega (arith, w.2), i.3, rw (w.1, w.2) (collected-passed g i.4 next (le-ltb 5 g w.0.left))))
-    c.if1.branch
+    (λ w. (omega arith, omega arith, omega (arith, w.n-is), i.3, rw (w.out-is, w.n-is) (collected-passed g i.4 next (le-ltb 5 g w.if-g-gt5.false))))
+    c.if-g-gt5.branch-raw
 
-same_length : tie.Need-same-length invariant-loop decreases-loop
-same_length c = c.before.loop.invariant.4.front.len
+same_length : tie.Need-shape_of-out invariant-loop decreases-loop
+same_length c = c.loop-k.invariant.4.front.len
 
 returns : tie.Need-returns invariant-loop decreases-loop
 returns c =
-    let none = wide_none c.before.loop.k (start c.before).args.lines.now (omega arith) in
-    collected_all (rw none at c.before.loop.invariant.4)
+    let none = wide_none c.loop-k.k c.args.lines.now (omega arith) in
+    collected_all (rw none at c.loop-k.invariant.4)
 
-pub wide-gaps-spec : {M : Type 1} → statement M
-wide-gaps-spec =
+pub wide_gaps_spec : {M : Type 1} → statement M
+wide_gaps_spec =
     tie.close
     (tie.spec
     invariant-loop

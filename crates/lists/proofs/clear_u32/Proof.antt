@@ -11,43 +11,43 @@ use borrow.Author.Rules.{rules}
 use Rattle.lists.proofs.clear_u32.Statement.{statement}
 use Rattle.lists.proofs.clear_u32.Tie as tie
 
-abbrev invariant-loop : tie.invariant-loop
+abbrev invariant-loop : tie.invariant-loop-k
 invariant-loop out₀ n k₀ out k = (k ≤ n) × AtFront (tab k (λ m. 0)) out₀ out
 
-abbrev decreases-loop : tie.decreases-loop
+abbrev decreases-loop : tie.decreases-loop-k
 decreases-loop out₀ n k₀ out k = n - k
 
-loop-holds : tie.Need-loop-init invariant-loop decreases-loop
+loop-holds : tie.Need-loop-k-init invariant-loop decreases-loop
 loop-holds c = (omega arith, front_none)
 
-mul-out : tie.Need-overflow-mul-out invariant-loop decreases-loop
+mul-out : tie.Need-offset_bounds-out-k invariant-loop decreases-loop
 mul-out c = search rules
 
-slice-write-out : tie.Need-slice-write-out invariant-loop decreases-loop
+slice-write-out : tie.Need-bounds-out-k invariant-loop decreases-loop
 slice-write-out c = search rules
 
-add-k : tie.Need-overflow-add-k invariant-loop decreases-loop
+add-k : tie.Need-overflow_step-k invariant-loop decreases-loop
 add-k c = search rules
 
-loop-less : tie.Need-loop-smaller invariant-loop decreases-loop
+loop-less : tie.Need-loop-k-smaller invariant-loop decreases-loop
 loop-less c = search rules
 
-loop-again : tie.Need-loop-preserved invariant-loop decreases-loop
+loop-again : tie.Need-loop-k-preserved invariant-loop decreases-loop
 loop-again c =
-    let l : c.before.loop.k < length c.before.before.args.out.now = omega arith in
-    (omega arith, front_more (λ m. 0) _ c.before.loop.invariant.1 l refl)
+    let l : c.before.loop-k.k < length c.before.before.args.out.now = omega arith in
+    (omega arith, front_more (λ m. 0) _ c.before.loop-k.invariant.1 l refl)
 
-same_length : tie.Need-same-length invariant-loop decreases-loop
+same_length : tie.Need-shape_of-out invariant-loop decreases-loop
 same_length c = search rules
 
 returns : tie.Need-returns invariant-loop decreases-loop
 returns c =
     let n = c.before.before.args.n in
-    let e : c.before.loop.k ≡ n = omega arith in
-    rw (e, tab_replicate {A = ℕ} n 0) at c.before.loop.invariant.1
+    let e : c.before.loop-k.k ≡ n = omega arith in
+    rw (e, tab_replicate {A = ℕ} n 0) at c.before.loop-k.invariant.1
 
-pub clear-u32-spec : {M : Type 1} → statement M
-clear-u32-spec =
+pub clear_u32_spec : {M : Type 1} → statement M
+clear_u32_spec =
     tie.close
     (tie.spec
     invariant-loop

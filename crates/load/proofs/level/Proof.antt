@@ -5,12 +5,12 @@ use Rattle.load.proofs.Units.{byte_top}
 use Rattle.load.proofs.level.Statement.{statement}
 use Rattle.load.proofs.level.Tie as tie
 
-int-to-float-result : tie.Need-int-to-float-result
+int-to-float-result : tie.Need-int_to_float-result
 int-to-float-result c = search rules
 
 returns : tie.Need-returns
 unfolding level
 returns c = rw byte_top
 
-pub level-spec : {M : Type 1} → statement M
-level-spec = tie.close (tie.spec int-to-float-result returns)
+pub level_spec : {M : Type 1} → statement M
+level_spec = tie.close (tie.spec int-to-float-result returns)

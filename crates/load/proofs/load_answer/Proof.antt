@@ -11,42 +11,42 @@ use borrow.Author.Rules.{rules}
 use Rattle.load.proofs.load_answer.Statement.{statement}
 use Rattle.load.proofs.load_answer.Tie as tie
 
-sides-outside-requires : tie.Need-sides-outside-requires
+sides-outside-requires : tie.Need-sides_outside-requires
 sides-outside-requires c κs = search rules
 
-returns : tie.Need-returns
+returns : tie.Need-returns-then-sides_outside
 unfolding load_answer
-returns c = rw (sym c.before.sides-outside.ensures ∙ c.if1.true)
+returns c = rw (sym c.before.sides_outside.ensures ∙ c.if-sides_outside.true)
 
 -- the sides are within the limits
-in-limits : (c : tie.Else1) → sides_outside least_side c.before.before.args.height c.before.before.args.width ≡ false
-in-limits c = sym c.before.sides-outside.ensures ∙ c.if1.false
+in-limits : (c : tie.Else-sides_outside) → sides_outside least_side c.before.before.args.height c.before.before.args.width ≡ false
+in-limits c = sym c.before.sides_outside.ensures ∙ c.if-sides_outside.false
 
-here : (c : tie.Else1) → SidesIn least_side c.before.before.args.height c.before.before.args.width
+here : (c : tie.Else-sides_outside) → SidesIn least_side c.before.before.args.height c.before.before.args.width
 here c = sides_in least_side _ _ (in-limits c)
 
-mul-n : tie.Need-overflow-mul-n
+mul-n : tie.Need-overflow_mul-n
 mul-n c = omega (arith, (here c).area)
 
-mul-if2 : tie.Need-overflow-mul-if2
+mul-if2 : tie.Need-overflow_mul-n-2
 mul-if2 c = omega (arith, (here c).area)
 
-returns-2 : tie.Need-returns-2
+returns-2 : tie.Need-returns-then-pixels-n
 unfolding load_answer
-returns-2 c = rw (in-limits c.before, lt-ltb _ _ c.if2.true)
+returns-2 c = rw (in-limits c.before, lt-ltb _ _ c.if-pixels-n.true)
 
-mul-if3 : tie.Need-overflow-mul-if3
+mul-if3 : tie.Need-overflow_mul-n-3
 mul-if3 c = search rules
 
-returns-3 : tie.Need-returns-3
+returns-3 : tie.Need-returns-then-planes-n
 unfolding load_answer
-returns-3 c = rw (in-limits c.before.before, le-ltb _ _ c.before.if2.false, lt-ltb _ _ c.if3.true)
+returns-3 c = rw (in-limits c.before.before, le-ltb _ _ c.before.if-pixels-n.false, lt-ltb _ _ c.if-planes-n.true)
 
-returns-4 : tie.Need-returns-4
+returns-4 : tie.Need-returns
 unfolding load_answer
-returns-4 c = rw (in-limits c.before.before, le-ltb _ _ c.before.if2.false, le-ltb _ _ c.if3.false)
+returns-4 c = rw (in-limits c.before.before, le-ltb _ _ c.before.if-pixels-n.false, le-ltb _ _ c.if-planes-n.false)
 
-pub load-answer-spec : {M : Type 1} → statement M
-load-answer-spec =
+pub load_answer_spec : {M : Type 1} → statement M
+load_answer_spec =
     tie.close
     (tie.spec sides-outside-requires returns mul-n mul-if2 returns-2 mul-if3 returns-3 returns-4)

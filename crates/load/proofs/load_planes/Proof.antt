@@ -12,107 +12,101 @@ use borrow.Author.Rules.{rules}
 use Rattle.load.proofs.load_planes.Statement.{statement}
 use Rattle.load.proofs.load_planes.Tie as tie
 
-abbrev invariant-loop : tie.invariant-loop
+abbrev invariant-loop : tie.invariant-loop-i
 invariant-loop height width pixels planes₀ n i₀ planes i = (i ≤ n) × Laid nan (shown_at most_byte height width pixels) n i planes₀ planes
 
-abbrev decreases-loop : tie.decreases-loop
+abbrev decreases-loop : tie.decreases-loop-i
 decreases-loop height width pixels planes₀ n i₀ planes i = n - i
 
 -- the places that the others follow
-abbrev at-start : tie.At-loop invariant-loop decreases-loop → tie.Start invariant-loop decreases-loop
-at-start c = c.before.before.before
-
-abbrev at_turn : tie.After-pixel invariant-loop decreases-loop → tie.At-loop invariant-loop decreases-loop
-at_turn c = c.before.before
-
-mul-n : tie.Need-overflow-mul-n invariant-loop decreases-loop
+mul-n : tie.Need-overflow_mul-n invariant-loop decreases-loop
 mul-n c = search rules
 
-loop-holds : tie.Need-loop-init invariant-loop decreases-loop
+loop-holds : tie.Need-loop-i-init invariant-loop decreases-loop
 loop-holds c = (omega arith, laid_none nan _ _)
 
-mul-pixel : tie.Need-overflow-mul-pixel invariant-loop decreases-loop
+mul-pixel : tie.Need-overflow_mul-i invariant-loop decreases-loop
 mul-pixel c = search rules
 
-pixel-requires : tie.Need-pixel-requires invariant-loop decreases-loop
+pixel-requires : tie.Need-pixel-v-requires invariant-loop decreases-loop
 pixel-requires c κs = search rules
 
-cast-level : tie.Need-overflow-cast-level invariant-loop decreases-loop
+cast-level : tie.Need-overflow_cast-v invariant-loop decreases-loop
 cast-level c = search rules
 
 level-requires : tie.Need-level-requires invariant-loop decreases-loop
 level-requires c κs = search rules
 
-mul-planes : tie.Need-overflow-mul-planes invariant-loop decreases-loop
+mul-planes : tie.Need-offset_bounds-planes-i invariant-loop decreases-loop
 mul-planes c = search rules
 
-slice-write-planes : tie.Need-slice-write-planes invariant-loop decreases-loop
-slice-write-planes c = omega (arith, c.before.before.before.loop.invariant.1.len)
+slice-write-planes : tie.Need-bounds-planes-i invariant-loop decreases-loop
+slice-write-planes c = omega (arith, c.loop-i.invariant.1.len)
 
-cast-level-2 : tie.Need-overflow-cast-level-2 invariant-loop decreases-loop
+cast-level-2 : tie.Need-overflow_cast-v-in-loop-i invariant-loop decreases-loop
 cast-level-2 c = search rules
 
-level-requires-2 : tie.Need-level-requires-2 invariant-loop decreases-loop
+level-requires-2 : tie.Need-level-requires-in-loop-i invariant-loop decreases-loop
 level-requires-2 c κs = search rules
 
-add-planes : tie.Need-overflow-add-planes invariant-loop decreases-loop
+add-planes : tie.Need-overflow_add-planes invariant-loop decreases-loop
 add-planes c = search rules
 
-mul-planes-2 : tie.Need-overflow-mul-planes-2 invariant-loop decreases-loop
+mul-planes-2 : tie.Need-offset_bounds-planes-n invariant-loop decreases-loop
 mul-planes-2 c = search rules
 
-slice-write-planes-2 : tie.Need-slice-write-planes-2 invariant-loop decreases-loop
-slice-write-planes-2 c = simp length-set (omega (arith, c.before.before.before.before.loop.invariant.1.len))
+slice-write-planes-2 : tie.Need-bounds-planes-n invariant-loop decreases-loop
+slice-write-planes-2 c = simp length-set (omega (arith, c.loop-i.invariant.1.len))
 
-cast-level-3 : tie.Need-overflow-cast-level-3 invariant-loop decreases-loop
+cast-level-3 : tie.Need-overflow_cast-v-in-loop-i-2 invariant-loop decreases-loop
 cast-level-3 c = search rules
 
-level-requires-3 : tie.Need-level-requires-3 invariant-loop decreases-loop
+level-requires-3 : tie.Need-level-requires-in-loop-i-2 invariant-loop decreases-loop
 level-requires-3 c κs = search rules
 
-mul-planes-3 : tie.Need-overflow-mul-planes-3 invariant-loop decreases-loop
+mul-planes-3 : tie.Need-overflow_mul-planes invariant-loop decreases-loop
 mul-planes-3 c = search rules
 
-add-planes-2 : tie.Need-overflow-add-planes-2 invariant-loop decreases-loop
+add-planes-2 : tie.Need-overflow_add-planes-in-loop-i invariant-loop decreases-loop
 add-planes-2 c = search rules
 
-mul-planes-4 : tie.Need-overflow-mul-planes-4 invariant-loop decreases-loop
+mul-planes-4 : tie.Need-offset_bounds-planes-n-in-loop-i invariant-loop decreases-loop
 mul-planes-4 c = search rules
 
-slice-write-planes-3 : tie.Need-slice-write-planes-3 invariant-loop decreases-loop
-slice-write-planes-3 c = simp length-set (omega (arith, c.before.before.before.before.before.loop.invariant.1.len))
+slice-write-planes-3 : tie.Need-bounds-planes-n-in-loop-i invariant-loop decreases-loop
+slice-write-planes-3 c = simp length-set (omega (arith, c.loop-i.invariant.1.len))
 
-add-i : tie.Need-overflow-add-i invariant-loop decreases-loop
+add-i : tie.Need-overflow_step-i invariant-loop decreases-loop
 add-i c = search rules
 
-loop-less : tie.Need-loop-smaller invariant-loop decreases-loop
+loop-less : tie.Need-loop-i-smaller invariant-loop decreases-loop
 loop-less c = search rules
 
-loop-again : tie.Need-loop-preserved invariant-loop decreases-loop
+loop-again : tie.Need-loop-i-preserved invariant-loop decreases-loop
 loop-again c =
-    let read = c.before.before.before in
-    let at = at_turn read in
-    let a = (at-start at).args in
-    let pixel = read.pixel.ensures in
+    let read = c in
+    let at = c in
+    let a = at.args in
+    let pixel = read.pixel-v.ensures in
     let value = value_is most_byte a.height a.width a.pixels.now in (
       omega arith,
-      laid_more nan _ _ at.loop.inv.1 read.before.loop-test.true (at-start at).pre.1.1
-          (c.before.before.level.ensures ∙ value 0 at.loop.i _ _ pixel.red_in (omega arith))
-          (c.before.level2.ensures ∙ value 1 at.loop.i _ _ pixel.green_in (omega arith))
-          (c.level3.ensures ∙ value 2 at.loop.i _ _ pixel.blue_in (omega arith)),
+      laid_more nan _ _ at.loop-i.invariant.1 read.loop-i-test.true at.requires.1.1
+          (c.level.ensures ∙ value 0 at.loop-i.i _ _ pixel.red_in (omega arith))
+          (c.level-in-loop-i.ensures ∙ value 1 at.loop-i.i _ _ pixel.green_in (omega arith))
+          (c.level-in-loop-i-2.ensures ∙ value 2 at.loop-i.i _ _ pixel.blue_in (omega arith)),
     )
 
-same_length : tie.Need-same-length invariant-loop decreases-loop
-same_length c = c.before.loop.invariant.1.len
+same_length : tie.Need-shape_of-planes invariant-loop decreases-loop
+same_length c = c.loop-i.invariant.1.len
 
 returns : tie.Need-returns invariant-loop decreases-loop
 returns c =
-    let s = at-start c.before in
-    let e : c.before.loop.i ≡ s.args.height * s.args.width = omega arith in
-    laid_all nan _ _ (rw e at c.before.loop.invariant.1) s.pre.1.1
+    let s = c in
+    let e : c.loop-i.i ≡ s.args.height * s.args.width = omega arith in
+    laid_all nan _ _ (rw e at c.loop-i.invariant.1) s.requires.1.1
 
-pub load-planes-spec : {M : Type 1} → statement M
-load-planes-spec =
+pub load_planes_spec : {M : Type 1} → statement M
+load_planes_spec =
     tie.close
     (tie.spec
     invariant-loop

@@ -7,27 +7,27 @@ use borrow.Author.Rules.{rules}
 use Rattle.load.proofs.new.Statement.{statement}
 use Rattle.load.proofs.new.Tie as tie
 
-load-answer-requires : tie.Need-load-answer-requires
+load-answer-requires : tie.Need-load_answer-answer-requires
 load-answer-requires c κs = search rules
 
 fresh-requires : tie.Need-fresh-requires
 fresh-requires c κs = search rules
 
-returns : tie.Need-returns
-returns c = refuses most_byte _ _ _ _ _ c.before.before.load-answer.ensures c.before.if1.true c.fresh.ensures.0
+returns : tie.Need-returns-then-answer-ne0
+returns c = refuses most_byte _ _ _ _ _ c.before.before.load_answer-answer.ensures c.before.if-answer-ne0.true c.fresh.ensures.0
 
-load-planes-requires : tie.Need-load-planes-requires
+load-planes-requires : tie.Need-load_planes-requires
 load-planes-requires c κs =
-    let ok = loadable _ _ _ _ (sym c.before.before.load-answer.ensures ∙ c.before.if1.false) in
+    let ok = loadable _ _ _ _ (sym c.before.before.load_answer-answer.ensures ∙ c.before.if-answer-ne0.false) in
     ((omega (arith, ok.sides.low_h), omega (arith, ok.sides.low_w)), (ok.pixels_in, ok.planes_in))
 
 fresh-requires-2 : tie.Need-fresh-requires-2
 fresh-requires-2 c κs = search rules
 
-same_length : tie.Need-same-length
+same_length : tie.Need-shape_of-planes
 same_length c = search rules
 
-returns-2 : tie.Need-returns-2
+returns-2 : tie.Need-returns
 returns-2 c = search rules
 
 pub new_spec : {M : Type 1} → statement M

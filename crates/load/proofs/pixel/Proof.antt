@@ -3,25 +3,25 @@ use borrow.Author.Rules.{rules}
 use Rattle.load.proofs.pixel.Statement.{statement}
 use Rattle.load.proofs.pixel.Tie as tie
 
-shared-slice-read-joined : tie.Need-shared-slice-read-joined
+shared-slice-read-joined : tie.Need-bounds-pixels-at
 shared-slice-read-joined c = search rules
 
-add-joined : tie.Need-overflow-add-joined
+add-joined : tie.Need-overflow_add-at
 add-joined c = search rules
 
-shared-slice-read-joined-2 : tie.Need-shared-slice-read-joined-2
+shared-slice-read-joined-2 : tie.Need-bounds-pixels-at-2
 shared-slice-read-joined-2 c = search rules
 
-add-joined-2 : tie.Need-overflow-add-joined-2
+add-joined-2 : tie.Need-overflow_add-at-2
 add-joined-2 c = search rules
 
-shared-slice-read-joined-3 : tie.Need-shared-slice-read-joined-3
+shared-slice-read-joined-3 : tie.Need-bounds-pixels-at-3
 shared-slice-read-joined-3 c = search rules
 
-add-joined-3 : tie.Need-overflow-add-joined-3
+add-joined-3 : tie.Need-overflow_add-at-3
 add-joined-3 c = search rules
 
-shared-slice-read-joined-4 : tie.Need-shared-slice-read-joined-4
+shared-slice-read-joined-4 : tie.Need-bounds-pixels-at-4
 shared-slice-read-joined-4 c = search rules
 
 joined-requires : tie.Need-joined-requires
@@ -30,8 +30,8 @@ joined-requires c κs = search rules
 returns : tie.Need-returns
 returns c = search rules
 
-pub pixel-spec : {M : Type 1} → statement M
-pixel-spec =
+pub pixel_spec : {M : Type 1} → statement M
+pixel_spec =
     tie.close
     (tie.spec
     shared-slice-read-joined

@@ -16,100 +16,97 @@ use Rattle.locate.proofs.get_pos_pixel.Statement.{statement}
 use Rattle.locate.proofs.get_pos_pixel.Tie as tie
 
 -- after the checks: what was handed in
-abbrev at-start : tie.After-check → tie.Start
-at-start c = c.before.before.before.before.before.before.before.before.before.before.before.before.before
+abbrev board : tie.After-check-answer → Board
+board c = c.args.b
 
-abbrev board : tie.After-check → Board
-board c = (at-start c).args.b
+abbrev factor : tie.After-check-answer → ℕ
+factor c = c.args.factor
 
-abbrev factor : tie.After-check → ℕ
-factor c = (at-start c).args.factor
-
-abbrev slices : tie.After-check → Lent
+abbrev slices : tie.After-check-answer → Lent
 slices c =
-    let a = (at-start c).args in
+    let a = c.args in
     lent a.planes.now a.edges.now a.scores.now a.scratch_f32.now a.scratch_u8.now a.scratch_u32.now
 
 -- the checks passed
-passed : (c : tie.Else1) → checked (board c.before) (factor c.before) (slices c.before) ≡ 0
-passed c = sym c.before.check.ensures ∙ c.if1.false
+passed : (c : tie.Else-answer-ne0) → checked (board c.before) (factor c.before) (slices c.before) ≡ 0
+passed c = sym c.check-answer.ensures ∙ c.if-answer-ne0.false
 
-factor_in : (c : tie.Else1) → FactorIn (factor c.before)
+factor_in : (c : tie.Else-answer-ne0) → FactorIn (factor c.before)
 factor_in c = (fit (board c.before) (factor c.before) (slices c.before) (passed c)).0
 
-fits : (c : tie.Else1) → let at = c.before in FitPlanes (least_located (factor at)) (board at).height (board at).width (slices at).planes
+fits : (c : tie.Else-answer-ne0) → let at = c in FitPlanes (least_located (factor c.before)) (board c.before).height (board c.before).width (slices c.before).planes
 fits c = (fit (board c.before) (factor c.before) (slices c.before) (passed c)).1
 
-room : (c : tie.Else1) → NoneShort (board c.before).height (board c.before).width (slices c.before)
+room : (c : tie.Else-answer-ne0) → NoneShort (board c.before).height (board c.before).width (slices c.before)
 room c = (fit (board c.before) (factor c.before) (slices c.before) (passed c)).2
 
-check-requires : tie.Need-check-requires
+check-requires : tie.Need-check-answer-requires
 check-requires c κs = search rules
 
 declined-requires : tie.Need-declined-requires
 declined-requires c κs = search rules
 
-same_length : tie.Need-same-length
+same_length : tie.Need-shape_of-planes-then-answer-ne0
 same_length c = search rules
 
-same-length-2 : tie.Need-same-length-2
+same-length-2 : tie.Need-shape_of-edges-then-answer-ne0
 same-length-2 c = search rules
 
-same-length-3 : tie.Need-same-length-3
+same-length-3 : tie.Need-shape_of-scores-then-answer-ne0
 same-length-3 c = search rules
 
-same-length-4 : tie.Need-same-length-4
+same-length-4 : tie.Need-shape_of-scratch_f32-then-answer-ne0
 same-length-4 c = search rules
 
-same-length-5 : tie.Need-same-length-5
+same-length-5 : tie.Need-shape_of-scratch_u8-then-answer-ne0
 same-length-5 c = search rules
 
-same-length-6 : tie.Need-same-length-6
+same-length-6 : tie.Need-shape_of-scratch_u32-then-answer-ne0
 same-length-6 c = search rules
 
-returns : tie.Need-returns
+returns : tie.Need-returns-then-answer-ne0
 returns c =
-    let at = c.before.before in
-    refuses (board at) (factor at) (slices at) _ at.check.ensures c.before.if1.true c.declined.ensures
+    let at = c in
+    refuses (board c.before.before) (factor c.before.before) (slices c.before.before) _ at.check-answer.ensures c.if-answer-ne0.true c.declined.ensures
 
-mul-n : tie.Need-overflow-mul-n
+mul-n : tie.Need-overflow_mul-n
 mul-n c = omega (arith, (fits c.before).sides.area)
 
-add-m : tie.Need-overflow-add-m
+add-m : tie.Need-overflow_add-m
 add-m c = let s = (fits c.before.before).sides in omega (arith, s.high_h, s.high_w)
 
-mul-m : tie.Need-overflow-mul-m
+mul-m : tie.Need-overflow_mul-m
 mul-m c = let s = (fits c.before.before).sides in omega (arith, s.high_h, s.high_w)
 
-slice-relend-prefix-work : tie.Need-slice-relend-prefix-work
+slice-relend-prefix-work : tie.Need-slice_bounds-work-end
 slice-relend-prefix-work c = omega (arith, (room c.before.before.before.before.before).f32_in)
 
-slice-aggregate-work : tie.Need-slice-aggregate-work
+slice-aggregate-work : tie.Need-slice_bounds-work-end-2
 slice-aggregate-work c =
-    let at = c.before.before.before.before.before.before in
-    sym (length-take-le _ _ (omega (arith, (room at).f32_in)))
+    let at = c in
+    sym (length-take-le _ _ (omega (arith, (room c.before.before.before.before.before.before).f32_in)))
 
-slice-relend-prefix-work-2 : tie.Need-slice-relend-prefix-work-2
+slice-relend-prefix-work-2 : tie.Need-slice_bounds-work-end-3
 slice-relend-prefix-work-2 c = omega (arith, (room c.before.before.before.before.before.before).u8_in)
 
-slice-aggregate-work-2 : tie.Need-slice-aggregate-work-2
+slice-aggregate-work-2 : tie.Need-slice_bounds-work-end-4
 slice-aggregate-work-2 c =
-    let at = c.before.before.before.before.before.before.before in
-    sym (length-take-le _ _ (omega (arith, (room at).u8_in)))
+    let at = c in
+    sym (length-take-le _ _ (omega (arith, (room c.before.before.before.before.before.before.before).u8_in)))
 
-slice-relend-prefix-work-3 : tie.Need-slice-relend-prefix-work-3
+slice-relend-prefix-work-3 : tie.Need-slice_bounds-work-end-5
 slice-relend-prefix-work-3 c = omega (arith, (room c.before.before.before.before.before.before.before).u32_in)
 
-slice-aggregate-work-3 : tie.Need-slice-aggregate-work-3
+slice-aggregate-work-3 : tie.Need-slice_bounds-work-end-6
 slice-aggregate-work-3 c =
-    let at = c.before.before.before.before.before.before.before.before in
-    sym (length-take-le _ _ (omega (arith, (room at).u32_in)))
+    let at = c in
+    sym (length-take-le _ _ (omega (arith, (room c.before.before.before.before.before.before.before.before).u32_in)))
 
 work-requires : tie.Need-work-requires
 work-requires c κs =
-    let at = c.before.before.before.before.before.before.before.before in
-    let r = room at in (
-      (factor_in at, fits at),
+    let at = c in
+    let r = room c.before.before.before.before.before.before.before.before in (
+      (factor_in c.before.before.before.before.before.before.before.before, fits c.before.before.before.before.before.before.before.before),
       record {
         edges_in = r.edges_in;
         scores_in = r.scores_in;
@@ -119,32 +116,32 @@ work-requires c κs =
       },
     )
 
-same-length-7 : tie.Need-same-length-7
+same-length-7 : tie.Need-shape_of-planes
 same-length-7 c = search rules
 
-same-length-8 : tie.Need-same-length-8
+same-length-8 : tie.Need-shape_of-edges
 same-length-8 c = search rules
 
-same-length-9 : tie.Need-same-length-9
+same-length-9 : tie.Need-shape_of-scores
 same-length-9 c = search rules
 
-same-length-10 : tie.Need-same-length-10
+same-length-10 : tie.Need-shape_of-scratch_f32
 same-length-10 c = search rules
 
-same-length-11 : tie.Need-same-length-11
+same-length-11 : tie.Need-shape_of-scratch_u8
 same-length-11 c = search rules
 
-same-length-12 : tie.Need-same-length-12
+same-length-12 : tie.Need-shape_of-scratch_u32
 same-length-12 c = search rules
 
-returns-2 : tie.Need-returns-2
+returns-2 : tie.Need-returns
 returns-2 c =
-    let done = c.before.before.before.before.before.before.before.before.before.before.before.before in
-    let at = done.before.before.before.before.before.before.before.before.before in
-    let r = room at in
+    let done = c in
+    let at = c in
+    let r = room c.before.before.before.before.before.before.before.before.before.before.before.before.before.before.before.before.before.before.before.before.before in
     let after = done.work.new in
     let same = done.work.auto in
-    accepts (board at.before) (factor at.before) (slices at.before) _ _ _ (passed at) done.work.ensures
+    accepts (board c.before.before.before.before.before.before.before.before.before.before.before.before.before.before.before.before.before.before.before.before.before.before) (factor c.before.before.before.before.before.before.before.before.before.before.before.before.before.before.before.before.before.before.before.before.before.before) (slices c.before.before.before.before.before.before.before.before.before.before.before.before.before.before.before.before.before.before.before.before.before.before) _ _ _ (passed c.before.before.before.before.before.before.before.before.before.before.before.before.before.before.before.before.before.before.before.before.before) done.work.ensures
     refl refl refl refl refl refl
     (record {
       f32_kept = drop_at after.1.1.1.1.1.0 _ _ (same.1.1.1.1.1.0 ∙ length-take-le _ _ r.f32_in);
@@ -152,8 +149,8 @@ returns-2 c =
       u32_kept = drop_at after.1.1.1.1.1.1.1.0 _ _ (same.1.1.1.1.1.1.1.0 ∙ length-take-le _ _ r.u32_in);
     })
 
-pub get-pos-pixel-spec : {M : Type 1} → statement M
-get-pos-pixel-spec =
+pub get_pos_pixel_spec : {M : Type 1} → statement M
+get_pos_pixel_spec =
     tie.close
     (tie.spec
     check-requires

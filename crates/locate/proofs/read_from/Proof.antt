@@ -12,37 +12,30 @@ use Rattle.locate.proofs.read_from.Statement.{statement}
 use Rattle.locate.proofs.read_from.Tie as tie
 
 -- the places that the others follow
-abbrev at-start : tie.After-widen → tie.Start
-at-start c = c.before.before.before.before.before.before.before.before
-
-abbrev at-widen : tie.After-read-axes → tie.After-widen
-at-widen c = c.before.before.before.before.before
-
--- the picture that was handed in can be scored over these bounds
 abbrev ScorableOn : tie.Start → Bounds → Type 0
 ScorableOn s bounds =
     let l = s.args.l in
     Scorable (take ((l.height - 2) * (l.width - 2)) s.args.edges.now) (l.width - 2) bounds
 
 -- so it can over the widened ones, and both lists be read
-can-score : (c : tie.After-widen) → ScorableOn (at-start c) c.widen.result
-can-score c = subst (ScorableOn (at-start c)) (sym c.widen.ensures) (scorable (at-start c).requires)
+can-score : (c : tie.After-widen-wide) → ScorableOn c.before.before.before.before.before.before.before.before c.widen-wide.result
+can-score c = subst (ScorableOn c.before.before.before.before.before.before.before.before) (sym c.widen-wide.ensures) (scorable c.requires)
 
-sub_row : tie.Need-overflow-sub-row
+sub_row : tie.Need-overflow_sub-row
 sub_row c = search rules
 
-sub-column : tie.Need-overflow-sub-column
+sub-column : tie.Need-overflow_sub-column
 sub-column c = search rules
 
-mul-n : tie.Need-overflow-mul-n
+mul-n : tie.Need-overflow_mul-n
 mul-n c = search rules
 
-slice-aggregate-widen : tie.Need-slice-aggregate-widen
-slice-aggregate-widen c = sym (picture_length c.before.before.before.before.before.before.before.requires)
+slice-aggregate-widen : tie.Need-slice_bounds-widen-end
+slice-aggregate-widen c = sym (picture_length c.requires)
 
-widen-requires : tie.Need-widen-requires
+widen-requires : tie.Need-widen-wide-requires
 widen-requires c κs =
-    let g = c.before.before.before.before.before.before.before.requires in (
+    let g = c.requires in (
       omega (arith, g.low_h),
       omega (arith, g.high_h),
       omega (arith, g.low_w),
@@ -52,48 +45,48 @@ widen-requires c κs =
       g.within,
     )
 
-slice-aggregate-read-axes : tie.Need-slice-aggregate-read-axes
-slice-aggregate-read-axes c = sym (picture_length (at-start c.before).requires)
+slice-aggregate-read-axes : tie.Need-slice_bounds-read_axes-end
+slice-aggregate-read-axes c = sym (picture_length c.requires)
 
-read-axes-requires : tie.Need-read-axes-requires
+read-axes-requires : tie.Need-read_axes-axes-requires
 read-axes-requires c κs =
-    let at = c.before.before.before.before in
-    let g = (at-start at).requires in
-    (rw at.widen.ensures (scorable g), rw at.widen.ensures (room_for g))
+    let at = c in
+    let g = at.requires in
+    (rw at.widen-wide.ensures (scorable g), rw at.widen-wide.ensures (room_for g))
 
 resized-requires : tie.Need-resized-requires
 resized-requires c κs = search rules
 
 joined-requires : tie.Need-joined-requires
 joined-requires c κs =
-    let read = c.before.before.before.before.before.before.before in
-    let at = at-widen read in
-    let is = read.read-axes.ensures in (
-      rw is.columns_are (quarters_fit _ (across_fit _ _ is.scores_are (can-score at))),
-      rw is.rows_are (quarters_fit _ (down_fit _ _ is.scores_are (can-score at))),
+    let read = c in
+    let at = c in
+    let is = read.read_axes-axes.ensures in (
+      rw is.columns_are (quarters_fit _ (across_fit _ _ is.scores_are (can-score c.before.before.before.before.before.before.before.before.before.before.before))),
+      rw is.rows_are (quarters_fit _ (down_fit _ _ is.scores_are (can-score c.before.before.before.before.before.before.before.before.before.before.before))),
     )
 
-same_length : tie.Need-same-length
+same_length : tie.Need-shape_of-scores
 same_length c = search rules
 
-same-length-2 : tie.Need-same-length-2
+same-length-2 : tie.Need-shape_of-scratch_u8
 same-length-2 c = search rules
 
-same-length-3 : tie.Need-same-length-3
+same-length-3 : tie.Need-shape_of-scratch_u32
 same-length-3 c = search rules
 
 returns : tie.Need-returns
 returns c =
-    let read = c.before.before.before.before.before.before.before.before in
-    let is = read.read-axes.ensures in
-    let wide = (at-widen read).widen.ensures in
+    let read = c in
+    let is = read.read_axes-axes.ensures in
+    let wide = read.widen-wide.ensures in
     record {
-      located_is = rw (c.before.resized.ensures, is.columns_are, is.rows_are, wide) at c.joined.ensures;
+      located_is = rw (c.resized.ensures, is.columns_are, is.rows_are, wide) at c.joined.ensures;
       scores_are = rw wide at is.scores_are;
     }
 
-pub read-from-spec : {M : Type 1} → statement M
-read-from-spec =
+pub read_from_spec : {M : Type 1} → statement M
+read_from_spec =
     tie.close
     (tie.spec
     sub_row

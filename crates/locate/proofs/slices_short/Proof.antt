@@ -10,63 +10,63 @@ use borrow.Author.Rules.{rules}
 use Rattle.locate.proofs.slices_short.Statement.{statement}
 use Rattle.locate.proofs.slices_short.Tie as tie
 
-sides-outside-requires : tie.Need-sides-outside-requires
+sides-outside-requires : tie.Need-sides_outside-requires
 sides-outside-requires c κs = search rules
 
-returns : tie.Need-returns
-returns c = λ e. absurd (true≢false (sym c.if1.true ∙ (c.before.sides-outside.ensures ∙ e)))
+returns : tie.Need-returns-then-sides_outside
+returns c = λ e. absurd (true≢false (sym c.if-sides_outside.true ∙ (c.sides_outside.ensures ∙ e)))
 
 -- the sides are within the limits
-sides : (c : tie.Else1) → let a = c.before.before.before.before.before.before.before.args in
+sides : (c : tie.Else-sides_outside) → let a = c.args in
     SidesIn a.least a.height a.width
-sides c = sides_in _ _ _ (sym c.before.sides-outside.ensures ∙ c.if1.false)
+sides c = sides_in _ _ _ (sym c.sides_outside.ensures ∙ c.if-sides_outside.false)
 
-mul-n : tie.Need-overflow-mul-n
+mul-n : tie.Need-overflow_mul-n
 mul-n c = omega (arith, (sides c).area)
 
-returns-2 : tie.Need-returns-2
+returns-2 : tie.Need-returns-then-edges-n
 unfolding slices_short
-returns-2 c = λ _. rw (lt-ltb _ _ c.if2.true)
+returns-2 c = λ _. rw (lt-ltb _ _ c.if-edges-n.true)
 
-add-if3 : tie.Need-overflow-add-if3
+add-if3 : tie.Need-overflow_add-height
 add-if3 c = omega (arith, (sides c.before).high_h, (sides c.before).high_w)
 
-returns-3 : tie.Need-returns-3
+returns-3 : tie.Need-returns-then-scores-height
 unfolding slices_short
-returns-3 c = λ _. rw (le-ltb _ _ c.before.if2.false, lt-ltb _ _ c.if3.true)
+returns-3 c = λ _. rw (le-ltb _ _ c.if-edges-n.false, lt-ltb _ _ c.if-scores-height.true)
 
-returns-4 : tie.Need-returns-4
+returns-4 : tie.Need-returns-then-scratch_f32-n
 unfolding slices_short
-returns-4 c = λ _. rw (le-ltb _ _ c.before.before.if2.false, le-ltb _ _ c.before.if3.false, lt-ltb _ _ c.if4.true)
+returns-4 c = λ _. rw (le-ltb _ _ c.if-edges-n.false, le-ltb _ _ c.if-scores-height.false, lt-ltb _ _ c.if-scratch_f32-n.true)
 
-returns-5 : tie.Need-returns-5
+returns-5 : tie.Need-returns-then-scratch_u8-n
 unfolding slices_short
 returns-5 c = λ _.
     rw (
-      le-ltb _ _ c.before.before.before.if2.false,
-      le-ltb _ _ c.before.before.if3.false,
-      le-ltb _ _ c.before.if4.false,
-      lt-ltb _ _ c.if5.true,
+      le-ltb _ _ c.if-edges-n.false,
+      le-ltb _ _ c.if-scores-height.false,
+      le-ltb _ _ c.if-scratch_f32-n.false,
+      lt-ltb _ _ c.if-scratch_u8-n.true,
     )
 
-add-result : tie.Need-overflow-add-result
+add-result : tie.Need-overflow_add-result
 add-result c = let s = sides c.before.before.before.before in omega (arith, s.high_h, s.high_w)
 
-mul-result : tie.Need-overflow-mul-result
+mul-result : tie.Need-overflow_mul-result
 mul-result c = let s = sides c.before.before.before.before in omega (arith, s.high_h, s.high_w)
 
-returns-6 : tie.Need-returns-6
+returns-6 : tie.Need-returns
 unfolding slices_short
 returns-6 c = λ _.
     rw (
-      le-ltb _ _ c.before.before.before.if2.false,
-      le-ltb _ _ c.before.before.if3.false,
-      le-ltb _ _ c.before.if4.false,
-      le-ltb _ _ c.if5.false,
+      le-ltb _ _ c.if-edges-n.false,
+      le-ltb _ _ c.if-scores-height.false,
+      le-ltb _ _ c.if-scratch_f32-n.false,
+      le-ltb _ _ c.if-scratch_u8-n.false,
     )
 
-pub slices-short-spec : {M : Type 1} → statement M
-slices-short-spec =
+pub slices_short_spec : {M : Type 1} → statement M
+slices_short_spec =
     tie.close
     (tie.spec
     sides-outside-requires

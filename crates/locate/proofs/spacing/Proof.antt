@@ -3,11 +3,11 @@ use borrow.Author.Rules.{rules}
 use Rattle.locate.proofs.spacing.Statement.{statement}
 use Rattle.locate.proofs.spacing.Tie as tie
 
-pitch-of-requires : tie.Need-pitch-of-requires
+pitch-of-requires : tie.Need-pitch_of-requires
 pitch-of-requires c κs = search rules
 
 returns : tie.Need-returns
-returns c = rw c.pitch-of.ensures
+returns c = rw c.pitch_of.ensures
 
-pub spacing-spec : {M : Type 1} → statement M
-spacing-spec = tie.close (tie.spec pitch-of-requires returns)
+pub spacing_spec : {M : Type 1} → statement M
+spacing_spec = tie.close (tie.spec pitch-of-requires returns)

@@ -14,49 +14,39 @@ use Rattle.locate.proofs.work.Statement.{statement}
 use Rattle.locate.proofs.work.Tie as tie
 
 -- the places that the others follow
-abbrev at-start : tie.After-last-picture → tie.Start
-at-start c = c.before.before.before.before.before.before.before.before.before.before
+abbrev board : tie.After-last_picture-l → Board
+board c = c.args.b
 
-abbrev at_last : tie.Else1 → tie.After-last-picture
-at_last c = c.before.before.before.before.before.before.before
+abbrev factor : tie.After-last_picture-l → ℕ
+factor c = c.args.factor
 
-abbrev at_read : tie.After-read-from → tie.Else1
-at_read c = c.before.before.before.before.before
-
--- after the loop: what was handed in, what was asked, and what the loop leaves
-abbrev board : tie.After-last-picture → Board
-board c = (at-start c).args.b
-
-abbrev factor : tie.After-last-picture → ℕ
-factor c = (at-start c).args.factor
-
-abbrev slices : tie.After-last-picture → Lent
+abbrev slices : tie.After-last_picture-l → Lent
 slices c =
-    let a = (at-start c).args in
+    let a = c.args in
     lent a.planes.now a.edges.now a.scores.now a.scratch_f32.now a.scratch_u8.now a.scratch_u32.now
 
-factor_in : (c : tie.After-last-picture) → FactorIn (factor c)
-factor_in c = (at-start c).requires.0.0
+factor_in : (c : tie.After-last_picture-l) → FactorIn (factor c)
+factor_in c = c.requires.0.0
 
-fits : (c : tie.After-last-picture) → FitPlanes (least_located (factor c)) (board c).height (board c).width (slices c).planes
-fits c = (at-start c).requires.0.1
+fits : (c : tie.After-last_picture-l) → FitPlanes (least_located (factor c)) (board c).height (board c).width (slices c).planes
+fits c = c.requires.0.1
 
-room : (c : tie.After-last-picture) → NoneShort (board c).height (board c).width (slices c)
-room c = (at-start c).requires.1
+room : (c : tie.After-last_picture-l) → NoneShort (board c).height (board c).width (slices c)
+room c = c.requires.1
 
-narrows : (c : tie.After-last-picture)
+narrows : (c : tie.After-last_picture-l)
     → Narrows (board c).height (board c).width (last_of (factor c) (board c).height (board c).width (slices c).planes)
-    c.last-picture.result c.last-picture.new.1.1.1.0 c.last-picture.new.1.1.1.1.1.0
-narrows c = c.last-picture.ensures.0
+    c.last_picture-l.result c.last_picture-l.new.planes c.last_picture-l.new.scratch
+narrows c = c.last_picture-l.ensures.0
 
-edged : (c : tie.After-last-picture)
+edged : (c : tie.After-last_picture-l)
     → AtFront (edges_at (last_of (factor c) (board c).height (board c).width (slices c).planes).stage) (slices c).edges
-    c.last-picture.new.1.1.1.1.0
-edged c = c.last-picture.ensures.1
+    c.last_picture-l.new.edges
+edged c = c.last_picture-l.ensures.1
 
-last-picture-requires : tie.Need-last-picture-requires
+last-picture-requires : tie.Need-last_picture-l-requires
 last-picture-requires c κs =
-    let ask = c.before.before.before.before.before.before.before.before.before.requires in
+    let ask = c.requires in
     (ask.0, (ask.1.edges_in, ask.1.f32_in))
 
 resized-requires : tie.Need-resized-requires
@@ -65,55 +55,55 @@ resized-requires c κs = search rules
 declined-requires : tie.Need-declined-requires
 declined-requires c κs = search rules
 
-same_length : tie.Need-same-length
+same_length : tie.Need-shape_of-planes-then-l
 same_length c = search rules
 
-same-length-2 : tie.Need-same-length-2
+same-length-2 : tie.Need-shape_of-edges-then-l
 same-length-2 c = search rules
 
-same-length-3 : tie.Need-same-length-3
+same-length-3 : tie.Need-shape_of-scratch_f32-then-l
 same-length-3 c = search rules
 
-returns : tie.Need-returns
+returns : tie.Need-returns-then-l
 returns c =
-    let at = c.before.before.before.before.before.before.before.before.before in
-    works_small (board at) (factor at) (slices at) (factor_in at) (fits at) (room at) (narrows at) (edged at) _ _ _
-    c.before.before.if1.true
-    (rw c.before.resized.ensures at c.declined.ensures)
+    let at = c in
+    works_small (board c.before.before.before.before.before.before.before.before.before) (factor c.before.before.before.before.before.before.before.before.before) (slices c.before.before.before.before.before.before.before.before.before) (factor_in c.before.before.before.before.before.before.before.before.before) (fits c.before.before.before.before.before.before.before.before.before) (room c.before.before.before.before.before.before.before.before.before) (narrows c.before.before.before.before.before.before.before.before.before) (edged c.before.before.before.before.before.before.before.before.before) _ _ _
+    c.if-l.true
+    (rw c.resized.ensures at c.declined.ensures)
 
-read-from-requires : tie.Need-read-from-requires
+read-from-requires : tie.Need-read_from-requires
 read-from-requires c κs =
-    let other = c.before.before.before.before in
-    let at = at_last other in
-    leads (board at) (factor at) (slices at) (factor_in at) (fits at) (room at) (narrows at) (edged at) other.if1.false
+    let other = c in
+    let at = c in
+    leads (board c.before.before.before.before.before.before.before.before.before.before) (factor c.before.before.before.before.before.before.before.before.before.before) (slices c.before.before.before.before.before.before.before.before.before.before) (factor_in c.before.before.before.before.before.before.before.before.before.before) (fits c.before.before.before.before.before.before.before.before.before.before) (room c.before.before.before.before.before.before.before.before.before.before) (narrows c.before.before.before.before.before.before.before.before.before.before) (edged c.before.before.before.before.before.before.before.before.before.before) other.if-l.false
 
-same-length-4 : tie.Need-same-length-4
+same-length-4 : tie.Need-shape_of-planes
 same-length-4 c = search rules
 
-same-length-5 : tie.Need-same-length-5
+same-length-5 : tie.Need-shape_of-edges
 same-length-5 c = search rules
 
-same-length-6 : tie.Need-same-length-6
+same-length-6 : tie.Need-shape_of-scores
 same-length-6 c = search rules
 
-same-length-7 : tie.Need-same-length-7
+same-length-7 : tie.Need-shape_of-scratch_f32
 same-length-7 c = search rules
 
-same-length-8 : tie.Need-same-length-8
+same-length-8 : tie.Need-shape_of-scratch_u8
 same-length-8 c = search rules
 
-same-length-9 : tie.Need-same-length-9
+same-length-9 : tie.Need-shape_of-scratch_u32
 same-length-9 c = search rules
 
-returns-2 : tie.Need-returns-2
+returns-2 : tie.Need-returns
 returns-2 c =
-    let read = c.before.before.before.before.before.before in
-    let at = at_last (at_read read) in
-    works_read (board at) (factor at) (slices at) (factor_in at) (fits at) (room at) (narrows at) (edged at)
-    (at_read read).if1.false _ _ _ read.read-from.ensures
+    let read = c in
+    let at = c in
+    works_read (board c.before.before.before.before.before.before.before.before.before.before.before.before.before.before.before.before.before) (factor c.before.before.before.before.before.before.before.before.before.before.before.before.before.before.before.before.before) (slices c.before.before.before.before.before.before.before.before.before.before.before.before.before.before.before.before.before) (factor_in c.before.before.before.before.before.before.before.before.before.before.before.before.before.before.before.before.before) (fits c.before.before.before.before.before.before.before.before.before.before.before.before.before.before.before.before.before) (room c.before.before.before.before.before.before.before.before.before.before.before.before.before.before.before.before.before) (narrows c.before.before.before.before.before.before.before.before.before.before.before.before.before.before.before.before.before) (edged c.before.before.before.before.before.before.before.before.before.before.before.before.before.before.before.before.before)
+    read.if-l.false _ _ _ read.read_from.ensures
 
-pub work-spec : {M : Type 1} → statement M
-work-spec =
+pub work_spec : {M : Type 1} → statement M
+work_spec =
     tie.close
     (tie.spec
     last-picture-requires

@@ -8,52 +8,52 @@ use borrow.Author.Rules.{rules}
 use Rattle.narrow.proofs.fetch.Statement.{statement}
 use Rattle.narrow.proofs.fetch.Tie as tie
 
-abbrev invariant-loop : tie.invariant-loop
+abbrev invariant-loop : tie.invariant-loop-v
 invariant-loop planes from f x₀ to v₀ x v = (v ≤ f) × Fetched v from to planes x₀ x
 
-abbrev decreases-loop : tie.decreases-loop
+abbrev decreases-loop : tie.decreases-loop-v
 decreases-loop planes from f x₀ to v₀ x v = f - v
 
-loop-holds : tie.Need-loop-init invariant-loop decreases-loop
+loop-holds : tie.Need-loop-v-init invariant-loop decreases-loop
 loop-holds c = (omega arith, fetched_none)
 
-add-x : tie.Need-overflow-add-x invariant-loop decreases-loop
+add-x : tie.Need-overflow_add-x invariant-loop decreases-loop
 add-x c = search rules
 
-mul-x : tie.Need-overflow-mul-x invariant-loop decreases-loop
+mul-x : tie.Need-offset_bounds-planes-from invariant-loop decreases-loop
 mul-x c = search rules
 
-shared-slice-read-x : tie.Need-shared-slice-read-x invariant-loop decreases-loop
+shared-slice-read-x : tie.Need-bounds-planes-from invariant-loop decreases-loop
 shared-slice-read-x c = search rules
 
-mul-x-2 : tie.Need-overflow-mul-x-2 invariant-loop decreases-loop
+mul-x-2 : tie.Need-overflow_mul-x invariant-loop decreases-loop
 mul-x-2 c = search rules
 
-add-x-2 : tie.Need-overflow-add-x-2 invariant-loop decreases-loop
+add-x-2 : tie.Need-overflow_add-x-in-loop-v invariant-loop decreases-loop
 add-x-2 c = search rules
 
-mul-x-3 : tie.Need-overflow-mul-x-3 invariant-loop decreases-loop
+mul-x-3 : tie.Need-offset_bounds-x-to invariant-loop decreases-loop
 mul-x-3 c = search rules
 
-slice-write-x : tie.Need-slice-write-x invariant-loop decreases-loop
+slice-write-x : tie.Need-bounds-x-to invariant-loop decreases-loop
 slice-write-x c = search rules
 
-add-v : tie.Need-overflow-add-v invariant-loop decreases-loop
+add-v : tie.Need-overflow_step-v invariant-loop decreases-loop
 add-v c = search rules
 
-loop-less : tie.Need-loop-smaller invariant-loop decreases-loop
+loop-less : tie.Need-loop-v-smaller invariant-loop decreases-loop
 loop-less c = search rules
 
-loop-again : tie.Need-loop-preserved invariant-loop decreases-loop
-loop-again c = (omega arith, fetched_more c.before.before.loop.invariant.1 (omega arith))
+loop-again : tie.Need-loop-v-preserved invariant-loop decreases-loop
+loop-again c = (omega arith, fetched_more c.loop-v.invariant.1 (omega arith))
 
-same_length : tie.Need-same-length invariant-loop decreases-loop
+same_length : tie.Need-shape_of-x invariant-loop decreases-loop
 same_length c = search rules
 
 returns : tie.Need-returns invariant-loop decreases-loop
 returns c =
-    let e : c.before.loop.v ≡ c.before.before.args.f = omega arith in
-    rw e at c.before.loop.invariant.1
+    let e : c.loop-v.v ≡ c.args.f = omega arith in
+    rw e at c.loop-v.invariant.1
 
 pub fetch_spec : {M : Type 1} → statement M
 fetch_spec =

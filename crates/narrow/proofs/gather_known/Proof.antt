@@ -11,45 +11,45 @@ use borrow.Author.Rules.{rules}
 use Rattle.narrow.proofs.gather_known.Statement.{statement}
 use Rattle.narrow.proofs.gather_known.Tie as tie
 
-abbrev invariant-loop : tie.invariant-loop
+abbrev invariant-loop : tie.invariant-loop-k
 invariant-loop f planes at width m x₀ k₀ x k = (k ≤ suc most_factor) × (length x ≡ length x₀) × (f < k → Gathered f f m width at planes x)
 
-abbrev decreases-loop : tie.decreases-loop
+abbrev decreases-loop : tie.decreases-loop-k
 decreases-loop f planes at width m x₀ k₀ x k = suc most_factor - k
 
-loop-holds : tie.Need-loop-init invariant-loop decreases-loop
-loop-holds c = (omega arith, refl, λ l. absurd (omega (arith, c.before.before.requires.0.low)))
+loop-holds : tie.Need-loop-k-init invariant-loop decreases-loop
+loop-holds c = (omega arith, refl, λ l. absurd (omega (arith, c.requires.0.low)))
 
 gather-requires : tie.Need-gather-requires invariant-loop decreases-loop
 gather-requires c κs =
-    let at = c.before.before.before in
-    let ask = at.before.before.before.requires in
-    rw c.before.if1.true (ask.1, ask.2, omega (arith, at.loop.invariant.1, ask.3))
+    let at = c in
+    let ask = at.requires in
+    rw c.if-k-f.true (ask.1, ask.2, omega (arith, at.loop-k.invariant.1, ask.3))
 
-add-k : tie.Need-overflow-add-k invariant-loop decreases-loop
+add-k : tie.Need-overflow_step-k invariant-loop decreases-loop
 add-k c = search rules
 
-loop-less : tie.Need-loop-smaller invariant-loop decreases-loop
+loop-less : tie.Need-loop-k-smaller invariant-loop decreases-loop
 loop-less c = search rules
 
-loop-again : tie.Need-loop-preserved invariant-loop decreases-loop
+loop-again : tie.Need-loop-k-preserved invariant-loop decreases-loop
 loop-again c =
-    let i = c.before.before.loop.invariant in (
+    let i = c.loop-k.invariant in (
       omega arith,
-      ⊎_elim (λ w. rw w.5 (w.2.kept.1.1.1.1.1.0 ∙ i.1)) (λ w. rw w.1 i.1) c.if1.branch,
+      ⊎_elim (λ w. rw w.x-is (w.gather.auto.x ∙ i.1)) (λ w. rw w.x-is i.1) c.if-k-f.branch-raw,
       λ l.
-          ⊎_elim (λ w. rw w.5 (rw w.0.taken at w.2.ensures)) (λ w. rw w.1 (i.2 (omega (arith, l, w.0.left))))
-          c.if1.branch,
+          ⊎_elim (λ w. rw w.x-is (rw w.if-k-f.true at w.gather.ensures)) (λ w. rw w.x-is (i.2 (omega (arith, l, w.if-k-f.false))))
+          c.if-k-f.branch-raw,
     )
 
-same_length : tie.Need-same-length invariant-loop decreases-loop
+same_length : tie.Need-shape_of-x invariant-loop decreases-loop
 same_length c = search rules
 
 returns : tie.Need-returns invariant-loop decreases-loop
-returns c = c.before.loop.invariant.2 (omega (arith, c.before.before.before.before.requires.0.high))
+returns c = c.loop-k.invariant.2 (omega (arith, c.requires.0.high))
 
-pub gather-known-spec : {M : Type 1} → statement M
-gather-known-spec =
+pub gather_known_spec : {M : Type 1} → statement M
+gather_known_spec =
     tie.close
     (tie.spec
     invariant-loop

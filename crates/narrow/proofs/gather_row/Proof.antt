@@ -11,59 +11,55 @@ use borrow.Author.Rules.{rules}
 use Rattle.narrow.proofs.gather_row.Statement.{statement}
 use Rattle.narrow.proofs.gather_row.Tie as tie
 
-abbrev invariant-loop : tie.invariant-loop
+abbrev invariant-loop : tie.invariant-loop-l
 invariant-loop planes from f m x₀ to l₀ x l = (l ≤ m) × GatheredRow f l from to planes x₀ x
 
-abbrev decreases-loop : tie.decreases-loop
+abbrev decreases-loop : tie.decreases-loop-l
 decreases-loop planes from f m x₀ to l₀ x l = m - l
 
-loop-holds : tie.Need-loop-init invariant-loop decreases-loop
+loop-holds : tie.Need-loop-l-init invariant-loop decreases-loop
 loop-holds c = (omega arith, row_none)
 
 -- the place that the others follow
-abbrev at-start : tie.At-loop invariant-loop decreases-loop → tie.Start invariant-loop decreases-loop
-at-start c = c.before.before.before
-
--- the values of one point are there
-place : (c : tie.In-loop invariant-loop decreases-loop) → let a = (at-start c.before).args in
-    a.from + c.before.loop.l * a.f + a.f ≤ length a.planes.now
+place : (c : tie.In-loop-l invariant-loop decreases-loop) → let a = c.args in
+    a.from + c.loop-l.l * a.f + a.f ≤ length a.planes.now
 place c =
-    let s = at-start c.before in
-    omega (arith, row_fits c.before.loop.l s.args.m s.args.f c.loop-test.true, s.pre.0)
+    let s = c in
+    omega (arith, row_fits c.loop-l.l s.args.m s.args.f c.loop-l-test.true, s.requires.0)
 
-mul-fetch : tie.Need-overflow-mul-fetch invariant-loop decreases-loop
+mul-fetch : tie.Need-overflow_mul-l invariant-loop decreases-loop
 mul-fetch c = omega (arith, place c)
 
-add-fetch : tie.Need-overflow-add-fetch invariant-loop decreases-loop
+add-fetch : tie.Need-overflow_add-from invariant-loop decreases-loop
 add-fetch c = omega (arith, place c)
 
-add-fetch-2 : tie.Need-overflow-add-fetch-2 invariant-loop decreases-loop
+add-fetch-2 : tie.Need-overflow_add-to invariant-loop decreases-loop
 add-fetch-2 c = search rules
 
 fetch-requires : tie.Need-fetch-requires invariant-loop decreases-loop
-fetch-requires c κs = let at = c.before.before in (place c.before, omega (arith, at.loop.invariant.1.len, (at-start at).requires.2))
+fetch-requires c κs = let at = c in (place c.before, omega (arith, at.loop-l.invariant.1.len, at.requires.2))
 
-add-l : tie.Need-overflow-add-l invariant-loop decreases-loop
+add-l : tie.Need-overflow_step-l invariant-loop decreases-loop
 add-l c = search rules
 
-loop-less : tie.Need-loop-smaller invariant-loop decreases-loop
+loop-less : tie.Need-loop-l-smaller invariant-loop decreases-loop
 loop-less c = search rules
 
-loop-again : tie.Need-loop-preserved invariant-loop decreases-loop
+loop-again : tie.Need-loop-l-preserved invariant-loop decreases-loop
 loop-again c =
-    let at = c.before.before.before.before.before in
-    (omega arith, row_more (omega (arith, (at-start at).requires.1)) at.loop.invariant.1 c.before.before.fetch.ensures)
+    let at = c in
+    (omega arith, row_more (omega (arith, at.requires.1)) at.loop-l.invariant.1 c.fetch.ensures)
 
-same_length : tie.Need-same-length invariant-loop decreases-loop
+same_length : tie.Need-shape_of-x invariant-loop decreases-loop
 same_length c = search rules
 
 returns : tie.Need-returns invariant-loop decreases-loop
 returns c =
-    let e : c.before.loop.l ≡ (at-start c.before).args.m = omega arith in
-    rw e at c.before.loop.invariant.1
+    let e : c.loop-l.l ≡ c.args.m = omega arith in
+    rw e at c.loop-l.invariant.1
 
-pub gather-row-spec : {M : Type 1} → statement M
-gather-row-spec =
+pub gather_row_spec : {M : Type 1} → statement M
+gather_row_spec =
     tie.close
     (tie.spec
     invariant-loop

@@ -12,55 +12,49 @@ use Rattle.narrow.proofs.narrow.Statement.{statement}
 use Rattle.narrow.proofs.narrow.Tie as tie
 
 -- the places that the others follow
-abbrev begun : tie.After-narrow-planes → tie.Start
-begun c = c.before.before.before.before.before
-
-abbrev at-laid : tie.After-slice-known4 → tie.After-narrow-planes
-at-laid c = c.before.before.before.before
-
-narrow-planes-requires : tie.Need-narrow-planes-requires
+narrow-planes-requires : tie.Need-narrow_planes-requires
 narrow-planes-requires c κs = search rules
 
 -- the narrowed planes fit
 room : (s : tie.Start) → let a = s.args in 3 * (a.height / a.f * (a.width / a.f)) ≤ a.height * a.width
 room s = shrinks s.args.f s.args.height s.args.width s.requires.1.low
 
-div-n : tie.Need-nonzero-div-n
+div-n : tie.Need-nonzero_div-n
 div-n c = search rules
 
-div-n-2 : tie.Need-nonzero-div-n-2
+div-n-2 : tie.Need-nonzero_div-n-2
 div-n-2 c = search rules
 
-mul-n : tie.Need-overflow-mul-n
-mul-n c = omega (arith, room (begun (at-laid c)))
+mul-n : tie.Need-overflow_mul-n
+mul-n c = omega (arith, room c.before.before.before.before.before.before.before.before.before)
 
-mul-n-2 : tie.Need-overflow-mul-n-2
-mul-n-2 c = omega (arith, room (begun (at-laid c)))
+mul-n-2 : tie.Need-overflow_mul-n-2
+mul-n-2 c = omega (arith, room c.before.before.before.before.before.before.before.before.before)
 
-copy-f32-requires : tie.Need-copy-f32-requires
-copy-f32-requires c κs = let r = room (begun (at-laid c.before.before)) in (omega arith, omega arith)
+copy-f32-requires : tie.Need-copy_f32-requires
+copy-f32-requires c κs = let r = room c.before.before.before.before.before.before.before.before.before.before in (omega arith, omega arith)
 
-same_length : tie.Need-same-length
+same_length : tie.Need-shape_of-planes
 same_length c = search rules
 
-same-length-2 : tie.Need-same-length-2
+same-length-2 : tie.Need-shape_of-scratch
 same-length-2 c = search rules
 
 returns : tie.Need-returns
 returns c =
-    let copied = c.before.before in
-    let laid = at-laid copied.before.before.before in
-    let a = (begun laid).args in
+    let copied = c in
+    let laid = c in
+    let a = laid.args in
     let n = 3 * (a.height / a.f * (a.width / a.f)) in
     let long = length_packed (narrowed a.f (view a.height a.width a.planes.now)) in
-    let front = rw (front_part n long laid.narrow-planes.ensures.0) at copied.copy-f32.ensures in
-    let fits = room (begun laid) in (
-      (same_over zero32 n (3 * (a.height * a.width)) long (omega arith) laid.narrow-planes.ensures.1 front).is,
-      front_kept (a.height * a.width) (omega (arith, long)) laid.narrow-planes.ensures.0,
+    let front = rw (front_part n long laid.narrow_planes.ensures.0) at copied.copy_f32.ensures in
+    let fits = room c.before.before.before.before.before.before.before.before.before.before.before.before.before in (
+      (same_over zero32 n (3 * (a.height * a.width)) long (omega arith) laid.narrow_planes.ensures.1 front).is,
+      front_kept (a.height * a.width) (omega (arith, long)) laid.narrow_planes.ensures.0,
     )
 
-pub narrow-spec : {M : Type 1} → statement M
-narrow-spec =
+pub narrow_spec : {M : Type 1} → statement M
+narrow_spec =
     tie.close
     (tie.spec
     narrow-planes-requires

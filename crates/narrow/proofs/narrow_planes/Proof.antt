@@ -21,197 +21,192 @@ use borrow.Author.Rules.{rules}
 use Rattle.narrow.proofs.narrow_planes.Statement.{statement}
 use Rattle.narrow.proofs.narrow_planes.Tie as tie
 
-abbrev invariant-loop : tie.invariant-loop
+abbrev invariant-loop : tie.invariant-loop-r
 invariant-loop f height width planes₀ out₀ rows columns band x₀ r₀ r-end planes out x r =
     (r ≤ 3 * (height / f)) × (r-end ≡ 3 * (height / f)) × (length x ≡ most_factor * most_factor * list_count)
     × AtFront (grid r (width / f) (plane_rows (narrowed f (view height width planes₀)))) out₀ out
     × Cleared (r * (f * width)) planes₀ planes
 
-abbrev decreases-loop : tie.decreases-loop
+abbrev decreases-loop : tie.decreases-loop-r
 decreases-loop f height width planes₀ out₀ rows columns band x₀ r₀ r-end planes out x r = 3 * (height / f) - r
 
-div-rows : tie.Need-nonzero-div-rows invariant-loop decreases-loop
+div-rows : tie.Need-nonzero_div-rows invariant-loop decreases-loop
 div-rows c = search rules
 
-div-columns : tie.Need-nonzero-div-columns invariant-loop decreases-loop
+div-columns : tie.Need-nonzero_div-columns invariant-loop decreases-loop
 div-columns c = search rules
 
-mul-band : tie.Need-overflow-mul-band invariant-loop decreases-loop
-mul-band c = omega (arith, mul-le-mul c.before.before.requires.1.high c.before.before.requires.0.sides.high_w)
+mul-band : tie.Need-overflow_mul-band invariant-loop decreases-loop
+mul-band c = omega (arith, mul-le-mul c.requires.1.high c.requires.0.sides.high_w)
 
 -- the rows are few
 few : (s : tie.Start invariant-loop decreases-loop) → s.args.height / s.args.f ≤ most_side
 few s = omega (arith, div-le_self s.args.height s.args.f, s.requires.0.sides.high_h)
 
-mul-r-end : tie.Need-overflow-mul-r-end invariant-loop decreases-loop
+mul-r-end : tie.Need-overflow_mul-r-end invariant-loop decreases-loop
 mul-r-end c = omega (arith, few c.before.before)
 
-loop-holds : tie.Need-loop-init invariant-loop decreases-loop
+loop-holds : tie.Need-loop-r-init invariant-loop decreases-loop
 loop-holds c = (omega arith, refl, search rules, rw zero-mul front_none, rw zero-mul front_none)
 
 -- the places that the others follow
-abbrev at-start : tie.At-loop invariant-loop decreases-loop → tie.Start invariant-loop decreases-loop
-at-start c = c.before.before.before
-
-abbrev in-turn : tie.After-slice-known3 invariant-loop decreases-loop → tie.In-loop invariant-loop decreases-loop
-in-turn c = c.before.before.before.before.before.before.before
-
--- the row lies within the room of one old plane
-place : (c : tie.In-loop invariant-loop decreases-loop) → let a = (at-start c.before).args in
-    c.before.loop.r * (a.width / a.f) + a.width / a.f ≤ a.height * a.width
-place c = let s = at-start c.before in row_in s.args.f s.args.height s.args.width s.pre.1.low c.loop-test.true
+place : (c : tie.In-loop-r invariant-loop decreases-loop) → let a = c.args in
+    c.loop-r.r * (a.width / a.f) + a.width / a.f ≤ a.height * a.width
+place c = let s = c in row_in s.args.f s.args.height s.args.width s.requires.1.low c.loop-r-test.true
 
 -- and what is cleared after it within the planes
-band : (c : tie.In-loop invariant-loop decreases-loop) → let a = (at-start c.before).args in
-    c.before.loop.r * (a.f * a.width) + a.f * a.width ≤ length c.before.loop.planes
+band : (c : tie.In-loop-r invariant-loop decreases-loop) → let a = c.args in
+    c.loop-r.r * (a.f * a.width) + a.f * a.width ≤ length c.loop-r.planes
 band c =
-    let s = at-start c.before in
-    let within = band_in s.args.f s.args.height s.args.width c.loop-test.true in
-    omega (arith, within, c.before.loop.invariant.4.len, s.pre.0.there)
+    let s = c in
+    let within = band_in s.args.f s.args.height s.args.width c.loop-r-test.true in
+    omega (arith, within, c.loop-r.invariant.4.len, s.requires.0.there)
 
-mul-from : tie.Need-overflow-mul-from invariant-loop decreases-loop
-mul-from c = omega (arith, place c)
+mul-from : tie.Need-overflow_mul-from invariant-loop decreases-loop
+mul-from c =
+    let a = c.args in
+    omega (arith, row_in a.f a.height a.width c.requires.1.low c.loop-r-test.true)
 
-div-narrow-row : tie.Need-nonzero-div-narrow-row invariant-loop decreases-loop
+div-narrow-row : tie.Need-nonzero_div-r invariant-loop decreases-loop
 div-narrow-row c = search rules
 
-rem-narrow-row : tie.Need-nonzero-rem-narrow-row invariant-loop decreases-loop
+rem-narrow-row : tie.Need-nonzero_rem-r invariant-loop decreases-loop
 rem-narrow-row c = search rules
 
-slice-aggregate-narrow-row : tie.Need-slice-aggregate-narrow-row invariant-loop decreases-loop
+slice-aggregate-narrow-row : tie.Need-slice_bounds-narrow_row-end invariant-loop decreases-loop
 slice-aggregate-narrow-row c = search rules
 
-mul-narrow-row : tie.Need-overflow-mul-narrow-row invariant-loop decreases-loop
-mul-narrow-row c = omega (arith, place c.before.before)
+mul-narrow-row : tie.Need-offset_bounds-out-from invariant-loop decreases-loop
+mul-narrow-row c = omega (arith, place c.before)
 
-sub-narrow-row : tie.Need-overflow-sub-narrow-row invariant-loop decreases-loop
-sub-narrow-row c = omega (arith, place c.before.before)
+sub-narrow-row : tie.Need-slice_bounds-narrow_row-count invariant-loop decreases-loop
+sub-narrow-row c = omega (arith, place c.before)
 
-part-narrow-row-start : tie.Need-slice-bounds-narrow-row-start invariant-loop decreases-loop
-part-narrow-row-start c = omega (arith, place c.before.before)
+part-narrow-row-start : tie.Need-slice_bounds-narrow_row-start invariant-loop decreases-loop
+part-narrow-row-start c = omega (arith, place c.before)
 
-part-narrow-row-end : tie.Need-slice-bounds-narrow-row-end invariant-loop decreases-loop
+part-narrow-row-end : tie.Need-slice_bounds-narrow_row-end-in-loop-r invariant-loop decreases-loop
 part-narrow-row-end c = search rules
 
-narrow-row-requires : tie.Need-narrow-row-requires invariant-loop decreases-loop
+narrow-row-requires : tie.Need-narrow_row-requires invariant-loop decreases-loop
 narrow-row-requires c κs =
-    let turn = c.before.before.before in
-    let r = turn.before.loop.r in
-    let start = at-start turn.before in
+    let turn = c in
+    let r = turn.loop-r.r in
+    let start = c in
     let a = start.args in
-    let at = row_column 3 (a.height / a.f) r turn.loop-test.true in (
-      (cleared_fit (r * (a.f * a.width)) turn.before.loop.invariant.4 start.pre.0, start.pre.1, at.0, at.1),
+    let at = row_column 3 (a.height / a.f) r turn.loop-r-test.true in (
+      (cleared_fit (r * (a.f * a.width)) turn.loop-r.invariant.4 start.requires.0, start.requires.1, at.0, at.1),
       (
-        omega (arith, mul-le-mul start.pre.1.high start.pre.1.high),
-        rw (mid_rest (r * (a.width / a.f)) turn.before.loop.out, length-drop) (omega (arith, place turn)),
+        omega (arith, mul-le-mul start.requires.1.high start.requires.1.high),
+        rw (mid_rest (r * (a.width / a.f)) turn.loop-r.out, length-drop) (omega (arith, place c.before.before)),
       ),
     )
 
-mul_at : tie.Need-overflow-mul-at invariant-loop decreases-loop
-mul_at c = omega (arith, band (in-turn c))
+mul_at : tie.Need-overflow_mul-at invariant-loop decreases-loop
+mul_at c = omega (arith, band c.before.before.before.before.before.before)
 
-mul-clear-f32 : tie.Need-overflow-mul-clear-f32 invariant-loop decreases-loop
-mul-clear-f32 c = omega (arith, band (in-turn c))
+mul-clear-f32 : tie.Need-offset_bounds-planes-at invariant-loop decreases-loop
+mul-clear-f32 c = omega (arith, band c.before.before.before.before.before.before)
 
-sub-clear-f32 : tie.Need-overflow-sub-clear-f32 invariant-loop decreases-loop
-sub-clear-f32 c = omega (arith, band (in-turn c))
+sub-clear-f32 : tie.Need-slice_bounds-clear_f32-count invariant-loop decreases-loop
+sub-clear-f32 c = omega (arith, band c.before.before.before.before.before.before)
 
-part-clear-f32-start : tie.Need-slice-bounds-clear-f32-start invariant-loop decreases-loop
-part-clear-f32-start c = omega (arith, band (in-turn c))
+part-clear-f32-start : tie.Need-slice_bounds-clear_f32-start invariant-loop decreases-loop
+part-clear-f32-start c = omega (arith, band c.before.before.before.before.before.before)
 
-part-clear-f32-end : tie.Need-slice-bounds-clear-f32-end invariant-loop decreases-loop
+part-clear-f32-end : tie.Need-slice_bounds-clear_f32-end invariant-loop decreases-loop
 part-clear-f32-end c = search rules
 
-clear-f32-requires : tie.Need-clear-f32-requires invariant-loop decreases-loop
+clear-f32-requires : tie.Need-clear_f32-requires invariant-loop decreases-loop
 clear-f32-requires c κs =
-    let turn = in-turn c.before in
-    let a = (at-start turn.before).args in
-    rw (mid_rest (turn.before.loop.r * (a.f * a.width)) turn.before.loop.planes, length-drop) (omega (arith, band turn))
+    let turn = c in
+    let a = turn.args in
+    rw (mid_rest (turn.loop-r.r * (a.f * a.width)) turn.loop-r.planes, length-drop) (omega (arith, band c.before.before.before.before.before.before.before))
 
-add_r : tie.Need-overflow-add-r invariant-loop decreases-loop
-add_r c = omega (arith, few (at-start (in-turn c.before.before.before.before).before))
+add_r : tie.Need-overflow_step-r invariant-loop decreases-loop
+add_r c = omega (arith, few c.before.before.before.before.before.before.before.before.before.before.before.before.before.before)
 
-loop-less : tie.Need-loop-smaller invariant-loop decreases-loop
+loop-less : tie.Need-loop-r-smaller invariant-loop decreases-loop
 loop-less c = search rules
 
-loop-again : tie.Need-loop-preserved invariant-loop decreases-loop
+loop-again : tie.Need-loop-r-preserved invariant-loop decreases-loop
 loop-again c =
-    let known = c.before.before.before.before in
-    let turn = in-turn known in
-    let at = turn.before in
-    let a = (at-start at).args in
-    let r = at.loop.r in
+    let known = c in
+    let turn = c in
+    let at = c in
+    let a = at.args in
+    let r = at.loop-r.r in
     let s = narrowed a.f (view a.height a.width a.planes.now) in
-    let same = row_same a.f a.height a.width r at.loop.inv.4 in (
+    let same = row_same a.f a.height a.width r at.loop-r.invariant.4 in (
       omega arith,
       refl,
       search rules,
-      next_row s r at.loop.inv.3 (rw same at known.before.before.before.narrow-row.ensures),
+      next_row s r at.loop-r.invariant.3 (rw same at known.narrow_row.ensures),
       rw (add-mul r 1 (a.f * a.width), one-mul)
-          (same_more zero32 (r * (a.f * a.width)) (a.f * a.width) at.loop.inv.4 c.before.before.clear-f32.ensures),
+          (same_more zero32 (r * (a.f * a.width)) (a.f * a.width) at.loop-r.invariant.4 c.clear_f32.ensures),
     )
 
 -- what the loop cleared lies within the planes
-loop-cleared : (c : tie.After-loop invariant-loop decreases-loop) → let a = (at-start c.before).args in
+loop-cleared : (c : tie.After-loop-r invariant-loop decreases-loop) → let a = c.args in
     (3 * (a.height / a.f) * (a.f * a.width) ≤ 3 * (a.height * a.width))
-    × (3 * (a.height * a.width) ≤ length c.before.loop.planes)
+    × (3 * (a.height * a.width) ≤ length c.loop-r.planes)
 loop-cleared c =
-    let s = at-start c.before in
-    (bands_in s.args.f s.args.height s.args.width, omega (arith, c.before.loop.invariant.4.len, s.pre.0.there))
+    let s = c in
+    (bands_in s.args.f s.args.height s.args.width, omega (arith, c.loop-r.invariant.4.len, s.requires.0.there))
 
-mul-cleared : tie.Need-overflow-mul-cleared invariant-loop decreases-loop
-mul-cleared c = omega (arith, few (at-start c.before))
+mul-cleared : tie.Need-overflow_mul-cleared invariant-loop decreases-loop
+mul-cleared c = omega (arith, few c.before.before.before.before)
 
-mul-cleared-2 : tie.Need-overflow-mul-cleared-2 invariant-loop decreases-loop
+mul-cleared-2 : tie.Need-overflow_mul-cleared-2 invariant-loop decreases-loop
 mul-cleared-2 c = omega (arith, loop-cleared c)
 
-mul-rest : tie.Need-overflow-mul-rest invariant-loop decreases-loop
+mul-rest : tie.Need-overflow_mul-rest invariant-loop decreases-loop
 mul-rest c = search rules
 
-mul-rest-2 : tie.Need-overflow-mul-rest-2 invariant-loop decreases-loop
+mul-rest-2 : tie.Need-overflow_mul-rest-2 invariant-loop decreases-loop
 mul-rest-2 c = search rules
 
-sub-rest : tie.Need-overflow-sub-rest invariant-loop decreases-loop
+sub-rest : tie.Need-overflow_sub-rest invariant-loop decreases-loop
 sub-rest c = omega (arith, loop-cleared c)
 
-mul-clear-f32-2 : tie.Need-overflow-mul-clear-f32-2 invariant-loop decreases-loop
+mul-clear-f32-2 : tie.Need-offset_bounds-planes-cleared invariant-loop decreases-loop
 mul-clear-f32-2 c = omega (arith, loop-cleared c)
 
-sub-clear-f32-2 : tie.Need-overflow-sub-clear-f32-2 invariant-loop decreases-loop
+sub-clear-f32-2 : tie.Need-slice_bounds-clear_f32-count-2 invariant-loop decreases-loop
 sub-clear-f32-2 c = omega (arith, loop-cleared c)
 
-part-clear-f32-start-2 : tie.Need-slice-bounds-clear-f32-start-2 invariant-loop decreases-loop
+part-clear-f32-start-2 : tie.Need-slice_bounds-clear_f32-start-2 invariant-loop decreases-loop
 part-clear-f32-start-2 c = omega (arith, loop-cleared c)
 
-part-clear-f32-end-2 : tie.Need-slice-bounds-clear-f32-end-2 invariant-loop decreases-loop
+part-clear-f32-end-2 : tie.Need-slice_bounds-clear_f32-end-2 invariant-loop decreases-loop
 part-clear-f32-end-2 c = search rules
 
-clear-f32-requires-2 : tie.Need-clear-f32-requires-2 invariant-loop decreases-loop
+clear-f32-requires-2 : tie.Need-clear_f32-requires-2 invariant-loop decreases-loop
 clear-f32-requires-2 c κs =
-    let a = (at-start c.before.before).args in
-    rw (mid_rest (3 * (a.height / a.f) * (a.f * a.width)) c.before.before.loop.planes, length-drop)
+    let a = c.args in
+    rw (mid_rest (3 * (a.height / a.f) * (a.f * a.width)) c.loop-r.planes, length-drop)
     (omega (arith, loop-cleared c.before))
 
-same_length : tie.Need-same-length invariant-loop decreases-loop
+same_length : tie.Need-shape_of-planes invariant-loop decreases-loop
 same_length c = search rules
 
-same-length-2 : tie.Need-same-length-2 invariant-loop decreases-loop
+same-length-2 : tie.Need-shape_of-out invariant-loop decreases-loop
 same-length-2 c = search rules
 
 returns : tie.Need-returns invariant-loop decreases-loop
 returns c =
-    let done = c.before.before.before.before in
-    let a = (at-start done.before).args in
+    let done = c in
+    let a = done.args in
     let n = 3 * (a.height / a.f) * (a.f * a.width) in
-    let r : done.before.loop.r ≡ 3 * (a.height / a.f) = omega arith in
+    let r : done.loop-r.r ≡ 3 * (a.height / a.f) = omega arith in
     let rest = 3 * (a.height * a.width) - n in
-    let all : n + rest ≡ 3 * (a.height * a.width) = omega (arith, (loop-cleared done).0) in (
-      rw (packed_rows (narrowed a.f (view a.height a.width a.planes.now))) (rw r at done.before.loop.invariant.3),
-      rw all at (same_more zero32 n rest (rw r at done.before.loop.invariant.4) c.before.before.clear-f322.ensures),
+    let all : n + rest ≡ 3 * (a.height * a.width) = omega (arith, (loop-cleared c.before.before.before.before).0) in (
+      rw (packed_rows (narrowed a.f (view a.height a.width a.planes.now))) (rw r at done.loop-r.invariant.3),
+      rw all at (same_more zero32 n rest (rw r at done.loop-r.invariant.4) c.clear_f32-2.ensures),
     )
 
-pub narrow-planes-spec : {M : Type 1} → statement M
-narrow-planes-spec =
+pub narrow_planes_spec : {M : Type 1} → statement M
+narrow_planes_spec =
     tie.close
     (tie.spec
     invariant-loop

@@ -7,40 +7,40 @@ use borrow.Author.Rules.{rules}
 use Rattle.reading.proofs.count_of.Statement.{statement}
 use Rattle.reading.proofs.count_of.Tie as tie
 
-sub-span : tie.Need-overflow-sub-span
+sub-span : tie.Need-overflow_sub-span
 sub-span c = search rules
 
-mul-span : tie.Need-overflow-mul-span
+mul-span : tie.Need-offset_bounds-lines-lines
 mul-span c = search rules
 
-shared-slice-read-span : tie.Need-shared-slice-read-span
+shared-slice-read-span : tie.Need-bounds-lines-lines
 shared-slice-read-span c = search rules
 
-shared-slice-read-span-2 : tie.Need-shared-slice-read-span-2
+shared-slice-read-span-2 : tie.Need-bounds-lines-0
 shared-slice-read-span-2 c = search rules
 
-sub-span-2 : tie.Need-overflow-sub-span-2
+sub-span-2 : tie.Need-overflow_sub-span-2
 sub-span-2 c = search rules
 
-add-span : tie.Need-overflow-add-span
-add-span c = let at = c.before.before.before in omega (arith, at.requires.0.2 (length at.args.lines.now - 1))
+add-span : tie.Need-overflow_add-span
+add-span c = let at = c in omega (arith, at.requires.0.2 (length at.args.lines.now - 1))
 
-int-to-float-trunc : tie.Need-int-to-float-trunc
+int-to-float-trunc : tie.Need-int_to_float-span
 int-to-float-trunc c =
-    let at = c.before.before.before.before in
+    let at = c in
     in_float_lem (omega (arith, at.requires.0.2 (length at.args.lines.now - 1)))
 
-pitch-of-requires : tie.Need-pitch-of-requires
+pitch-of-requires : tie.Need-pitch_of-requires
 pitch-of-requires c κs = search rules
 
 trunc-requires : tie.Need-trunc-requires
 trunc-requires c κs = search rules
 
 returns : tie.Need-returns
-returns c = rw (← c.before.pitch-of.ensures) c.trunc.ensures
+returns c = rw (← c.pitch_of.ensures) c.trunc.ensures
 
-pub count-of-spec : {M : Type 1} → statement M
-count-of-spec =
+pub count_of_spec : {M : Type 1} → statement M
+count_of_spec =
     tie.close
     (tie.spec
     sub-span

@@ -12,57 +12,51 @@ use Rattle.reading.proofs.get_line.Statement.{statement}
 use Rattle.reading.proofs.get_line.Tie as tie
 
 -- the places that the others follow
-abbrev start : tie.Else1 → tie.Start
-start c = c.before.before.before.before
+fits : (c : tie.Else-answer-ne0)
+    → InLimits c.args.list.now × (4 * length c.args.list.now ≤ length c.args.scratch.now)
+fits c = line_fit c.args.list.now (length c.args.scratch.now) (sym c.line_answer-answer.ensures ∙ c.if-answer-ne0.false)
 
-abbrev at-quarters : tie.After-slice-known2 → tie.After-quarters-of
-at-quarters c = c.before.before
-
-fits : (c : tie.Else1)
-    → InLimits (start c).args.list.now × (4 * length (start c).args.list.now ≤ length (start c).args.scratch.now)
-fits c = line_fit (start c).args.list.now (length (start c).args.scratch.now) (sym c.before.line-answer.ensures ∙ c.if1.false)
-
-line-answer-requires : tie.Need-line-answer-requires
+line-answer-requires : tie.Need-line_answer-answer-requires
 line-answer-requires c κs = search rules
 
-returns : tie.Need-returns
+returns : tie.Need-returns-then-answer-ne0
 returns c =
-    let a = c.before.before.before.before.args in
-    let e = declined a.list.now (length a.scratch.now) c.before.line-answer.ensures c.if1.true in
+    let a = c.args in
+    let e = declined a.list.now (length a.scratch.now) c.line_answer-answer.ensures c.if-answer-ne0.true in
     (e, line_gives a.list.now a.scratch.now e refl)
 
-mul-room : tie.Need-overflow-mul-room
+mul-room : tie.Need-overflow_mul-room
 mul-room c = search rules
 
-slice-relend-prefix-quarters-of : tie.Need-slice-relend-prefix-quarters-of
+slice-relend-prefix-quarters-of : tie.Need-slice_bounds-quarters_of-end
 slice-relend-prefix-quarters-of c = omega (arith, (fits c).1)
 
-slice-aggregate-quarters-of : tie.Need-slice-aggregate-quarters-of
+slice-aggregate-quarters-of : tie.Need-slice_bounds-quarters_of-end-2
 slice-aggregate-quarters-of c = sym (length-take-le _ _ (omega (arith, (fits c.before).1)))
 
-quarters-of-requires : tie.Need-quarters-of-requires
+quarters-of-requires : tie.Need-quarters_of-requires
 quarters-of-requires c κs = ((fits c.before).0, simp length-take (omega (arith, (fits c.before).1)))
 
-pitched-of-requires : tie.Need-pitched-of-requires
+pitched-of-requires : tie.Need-pitched_of-requires
 pitched-of-requires c κs =
-    let read = at-quarters c in
-    rw read.quarters-of.ensures (quarters_pitched _ (fits read.before.before).0)
+    let read = c in
+    rw read.quarters_of.ensures (quarters_pitched _ (fits c.before.before.before.before).0)
 
-same_length : tie.Need-same-length
+same_length : tie.Need-shape_of-scratch
 same_length c = search rules
 
-returns-2 : tie.Need-returns-2
+returns-2 : tie.Need-returns
 returns-2 c =
-    let read = at-quarters c.before in
-    let test = read.before.before in
-    let a = (start test).args in
-    let zero = sym test.before.line-answer.ensures ∙ test.if1.left in
-    let e = (rw read.quarters-of.ensures at c.pitched-of.ensures) ∙ taken a.list.now (length a.scratch.now) zero in
-    let kept = drop_at read.quarters-of.last.1.0 _ _ (read.quarters-of.kept.1.0 ∙ length-take-le _ _ (fits test).1) in
+    let read = c in
+    let test = c in
+    let a = test.args in
+    let zero = sym test.line_answer-answer.ensures ∙ test.if-answer-ne0.false in
+    let e = (rw read.quarters_of.ensures at c.pitched_of.ensures) ∙ taken a.list.now (length a.scratch.now) zero in
+    let kept = drop_at read.quarters_of.new.scratch _ _ (read.quarters_of.auto.scratch ∙ length-take-le _ _ (fits c.before.before.before.before.before).1) in
     (e, line_gives a.list.now a.scratch.now e kept)
 
-pub get-line-spec : {M : Type 1} → statement M
-get-line-spec =
+pub get_line_spec : {M : Type 1} → statement M
+get_line_spec =
     tie.close
     (tie.spec
     line-answer-requires

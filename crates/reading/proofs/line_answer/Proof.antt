@@ -11,37 +11,34 @@ use Rattle.reading.proofs.line_answer.Tie as tie
 abbrev list : tie.Start → List ℕ
 list c = c.args.list.now
 
-abbrev start : tie.Else2 → tie.Start
-start c = c.before.before.before
+returns : tie.Need-returns-then-n-lt-SHORTEST
+returns c = let at = c in too_short (list c.before.before) at.args.scratch (omega arith)
 
-returns : tie.Need-returns
-returns c = let at = c.before.before in too_short (list at) at.args.scratch (omega arith)
+returns-2 : tie.Need-returns-then-n-gt-LONGEST
+returns-2 c = let at = c in too_long (list c.before.before.before) at.args.scratch (omega arith)
 
-returns-2 : tie.Need-returns-2
-returns-2 c = let at = c.before.before.before in too_long (list at) at.args.scratch (omega arith)
-
-mul-room : tie.Need-overflow-mul-room
+mul-room : tie.Need-overflow_mul-room
 mul-room c = search rules
 
-returns-3 : tie.Need-returns-3
-returns-3 c = let at = start c.before in no_room (list at) at.args.scratch (omega arith) (omega arith) (omega arith)
+returns-3 : tie.Need-returns-then-scratch-room
+returns-3 c = let at = c in no_room (list c.before.before.before.before) at.args.scratch (omega arith) (omega arith) (omega arith)
 
-largest-of-requires : tie.Need-largest-of-requires
+largest-of-requires : tie.Need-largest_of-requires
 largest-of-requires c κs = search rules
 
-returns-4 : tie.Need-returns-4
+returns-4 : tie.Need-returns-then-largest_of-gt-HIGHEST
 returns-4 c =
-    let at = start c.before.before.before in
-    let high = c.before.largest-of.ensures in
-    too_high (list at) at.args.scratch (omega arith) (omega arith) (omega arith) (omega (arith, high))
+    let at = c in
+    let high = c.largest_of.ensures in
+    too_high (list c.before.before.before.before.before.before) at.args.scratch (omega arith) (omega arith) (omega arith) (omega (arith, high))
 
-returns-5 : tie.Need-returns-5
+returns-5 : tie.Need-returns
 returns-5 c =
-    let at = start c.before.before.before in
-    let low = c.before.largest-of.ensures in
-    fit_answer_lem (list at) at.args.scratch
+    let at = c in
+    let low = c.largest_of.ensures in
+    fit_answer_lem (list c.before.before.before.before.before.before) at.args.scratch
     (record { shortest = omega arith; longest = omega arith; entries = omega (arith, low) }) (omega arith)
 
-pub line-answer-spec : {M : Type 1} → statement M
-line-answer-spec =
+pub line_answer_spec : {M : Type 1} → statement M
+line_answer_spec =
     tie.close (tie.spec returns returns-2 mul-room returns-3 largest-of-requires returns-4 returns-5)

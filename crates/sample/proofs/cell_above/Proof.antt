@@ -8,5 +8,5 @@ returns : tie.Need-returns
 unfolding cell_above
 returns c = refl
 
-pub cell-above-spec : {M : Type 1} → statement M
-cell-above-spec = tie.close (tie.spec returns)
+pub cell_above_spec : {M : Type 1} → statement M
+cell_above_spec = tie.close (tie.spec returns)

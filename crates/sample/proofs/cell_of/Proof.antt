@@ -4,23 +4,23 @@ use borrow.Author.Rules.{rules}
 use Rattle.sample.proofs.cell_of.Statement.{statement}
 use Rattle.sample.proofs.cell_of.Tie as tie
 
-cell-answer-requires : tie.Need-cell-answer-requires
+cell-answer-requires : tie.Need-cell_answer-answer-requires
 cell-answer-requires c κs = search rules
 
-copy-cell-requires : tie.Need-copy-cell-requires
+copy-cell-requires : tie.Need-copy_cell-requires
 copy-cell-requires c κs = search rules
 
-same_length : tie.Need-same-length
+same_length : tie.Need-shape_of-out
 same_length c = search rules
 
-returns : tie.Need-returns
+returns : tie.Need-returns-then-answer-eq0
 returns c =
-    let test = c.before.before.before.before in
-    cell_copied _ _ _ _ _ _ _ _ test.before.cell-answer.ensures test.if1.true c.before.before.copy-cell.ensures
+    let test = c in
+    cell_copied _ _ _ _ _ _ _ _ test.cell_answer-answer.ensures test.if-answer-eq0.true c.copy_cell.ensures
 
-returns-2 : tie.Need-returns-2
-returns-2 c = cell_refused _ _ _ _ _ _ _ c.before.cell-answer.ensures c.if1.false
+returns-2 : tie.Need-returns-else-answer-eq0
+returns-2 c = cell_refused _ _ _ _ _ _ _ c.cell_answer-answer.ensures c.if-answer-eq0.false
 
-pub cell-of-spec : {M : Type 1} → statement M
-cell-of-spec =
+pub cell_of_spec : {M : Type 1} → statement M
+cell_of_spec =
     tie.close (tie.spec cell-answer-requires copy-cell-requires same_length returns returns-2)

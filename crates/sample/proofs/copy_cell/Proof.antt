@@ -14,96 +14,83 @@ use borrow.Author.Rules.{rules}
 use Rattle.sample.proofs.copy_cell.Statement.{statement}
 use Rattle.sample.proofs.copy_cell.Tie as tie
 
-abbrev invariant-loop : tie.invariant-loop
+abbrev invariant-loop : tie.invariant-loop-k
 invariant-loop b planes x y size out₀ rows columns k₀ out k = (k ≤ 3) × AtFront (grid k (size * size) (cell_plane b planes x y size)) out₀ out
 
-abbrev decreases-loop : tie.decreases-loop
+abbrev decreases-loop : tie.decreases-loop-k
 decreases-loop b planes x y size out₀ rows columns k₀ out k = 3 - k
 
 -- the places that the others follow: the start, and the places of the cell
-abbrev at-start : tie.After-slice-known invariant-loop decreases-loop → tie.Start invariant-loop decreases-loop
-at-start c = c.before.before
-
-abbrev at-known : tie.After-places2 invariant-loop decreases-loop → tie.After-slice-known invariant-loop decreases-loop
-at-known c = c.before.before
-
-abbrev at_places : tie.At-loop invariant-loop decreases-loop → tie.After-places2 invariant-loop decreases-loop
-at_places c = c.before
-
-abbrev begun : tie.At-loop invariant-loop decreases-loop → tie.Start invariant-loop decreases-loop
-begun c = at-start (at-known (at_places c))
-
--- what the answer 0 tells, and the places
-fits : (c : tie.After-slice-known invariant-loop decreases-loop) → let s = (at-start c).args in
+fits : (c : tie.After-slice_known-1 invariant-loop decreases-loop) → let s = c.args in
     CellIn s.b s.x s.y s.size (length s.out.now)
-fits c = cell_in _ _ _ _ _ (at-start c).requires.1
+fits c = cell_in _ _ _ _ _ c.requires.1
 
-placed : (c : tie.After-places2 invariant-loop decreases-loop) → let s = (at-start (at-known c)).args in
-    PlacesAre s.b s.x s.y s.size (length s.out.now) c.before.places.result c.places2.result
-placed c = record { fit = fits (at-known c); rows_are = c.before.places.ensures; columns_are = c.places2.ensures }
+placed : (c : tie.After-places-columns invariant-loop decreases-loop) → let s = c.args in
+    PlacesAre s.b s.x s.y s.size (length s.out.now) c.places-rows.result c.places-columns.result
+placed c = record { fit = fits c.before.before; rows_are = c.places-rows.ensures; columns_are = c.places-columns.ensures }
 
 -- a plane has its place in the output
-room : (c : tie.In-loop invariant-loop decreases-loop) → let s = (begun c.before).args in
-    c.before.loop.k * (s.size * s.size) + s.size * s.size ≤ length s.out.now
+room : (c : tie.In-loop-k invariant-loop decreases-loop) → let s = c.args in
+    c.loop-k.k * (s.size * s.size) + s.size * s.size ≤ length s.out.now
 room c =
-    let n = (begun c.before).args.size in
-    omega (arith, row_fits _ _ (n * n) c.loop-test.true, (placed (at_places c.before)).fit.output)
+    let n = c.args.size in
+    omega (arith, row_fits _ _ (n * n) c.loop-k-test.true, (placed c.before.before).fit.output)
 
-places-requires : tie.Need-places-requires invariant-loop decreases-loop
-places-requires c κs = axis_down (at-start c).requires.0.0 (fits c).numbers
+places-requires : tie.Need-places-rows-requires invariant-loop decreases-loop
+places-requires c κs = axis_down c.requires.0.0 (fits c).numbers
 
-places-requires-2 : tie.Need-places-requires-2 invariant-loop decreases-loop
-places-requires-2 c κs = axis_across (at-start c.before).pre.0.0 (fits c.before).numbers
+places-requires-2 : tie.Need-places-columns-requires invariant-loop decreases-loop
+places-requires-2 c κs = axis_across c.requires.0.0 (fits c.before).numbers
 
-loop-holds : tie.Need-loop-init invariant-loop decreases-loop
+loop-holds : tie.Need-loop-k-init invariant-loop decreases-loop
 loop-holds c = (omega arith, rw zero-mul front_none)
 
-mul-copy-plane : tie.Need-overflow-mul-copy-plane invariant-loop decreases-loop
+mul-copy-plane : tie.Need-overflow_mul-b invariant-loop decreases-loop
 mul-copy-plane c = omega arith
 
-mul-copy-plane-2 : tie.Need-overflow-mul-copy-plane-2 invariant-loop decreases-loop
+mul-copy-plane-2 : tie.Need-overflow_mul-k invariant-loop decreases-loop
 mul-copy-plane-2 c =
-    let b = (begun c.before.before).args.b in
-    omega (arith, row_fits _ _ (b.height * b.width) c.before.loop-test.true)
+    let b = c.args.b in
+    omega (arith, row_fits _ _ (b.height * b.width) c.loop-k-test.true)
 
-mul-copy-plane-3 : tie.Need-overflow-mul-copy-plane-3 invariant-loop decreases-loop
+mul-copy-plane-3 : tie.Need-overflow_mul-size invariant-loop decreases-loop
 mul-copy-plane-3 c = omega (arith, room c.before.before.before.before)
 
-mul-copy-plane-4 : tie.Need-overflow-mul-copy-plane-4 invariant-loop decreases-loop
+mul-copy-plane-4 : tie.Need-overflow_mul-k-in-loop-k invariant-loop decreases-loop
 mul-copy-plane-4 c = omega (arith, room c.before.before.before.before)
 
-copy-plane-requires : tie.Need-copy-plane-requires invariant-loop decreases-loop
+copy-plane-requires : tie.Need-copy_plane-requires invariant-loop decreases-loop
 copy-plane-requires c κs =
-    let turn = c.before.before.before.before in
-    let s = begun turn.before in
-    let here = placed (at_places turn.before) in (
-      (here.fit.numbers.size_in, omega (arith, room turn)),
-      λ i j i-in j-in. place_in s.args.planes.now here turn.before.loop.k i j s.pre.0.1 (omega arith) i-in j-in,
+    let turn = c in
+    let s = c in
+    let here = placed c.before.before.before.before.before.before in (
+      (here.fit.numbers.size_in, omega (arith, room c.before.before.before.before)),
+      λ i j i-in j-in. place_in s.args.planes.now here turn.loop-k.k i j s.requires.0.1 (omega arith) i-in j-in,
     )
 
-add-k : tie.Need-overflow-add-k invariant-loop decreases-loop
+add-k : tie.Need-overflow_step-k invariant-loop decreases-loop
 add-k c = search rules
 
-loop-less : tie.Need-loop-smaller invariant-loop decreases-loop
+loop-less : tie.Need-loop-k-smaller invariant-loop decreases-loop
 loop-less c = search rules
 
-loop-again : tie.Need-loop-preserved invariant-loop decreases-loop
+loop-again : tie.Need-loop-k-preserved invariant-loop decreases-loop
 loop-again c =
-    let at = c.before.before.before.before.before.before.before.before in
-    let s = (begun at).args in (
+    let at = c in
+    let s = at.args in (
       omega arith,
-      front_row (cell_plane s.b s.planes.now s.x s.y s.size) at.loop.k (s.size * s.size) at.loop.invariant.1
-          (rw (plane_is s.planes.now (placed (at_places at)) at.loop.k) at c.before.before.copy-plane.ensures),
+      front_row (cell_plane s.b s.planes.now s.x s.y s.size) at.loop-k.k (s.size * s.size) at.loop-k.invariant.1
+          (rw (plane_is s.planes.now (placed c.before.before.before.before.before.before.before.before.before) at.loop-k.k) at c.copy_plane.ensures),
     )
 
-same_length : tie.Need-same-length invariant-loop decreases-loop
+same_length : tie.Need-shape_of-out invariant-loop decreases-loop
 same_length c = search rules
 
 returns : tie.Need-returns invariant-loop decreases-loop
-returns c = let e : c.before.loop.k ≡ 3 = omega arith in rw e at c.before.loop.invariant.1
+returns c = let e : c.loop-k.k ≡ 3 = omega arith in rw e at c.loop-k.invariant.1
 
-pub copy-cell-spec : {M : Type 1} → statement M
-copy-cell-spec =
+pub copy_cell_spec : {M : Type 1} → statement M
+copy_cell_spec =
     tie.close
     (tie.spec
     invariant-loop

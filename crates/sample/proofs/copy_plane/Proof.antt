@@ -14,83 +14,79 @@ use borrow.Author.Rules.{rules}
 use Rattle.sample.proofs.copy_plane.Statement.{statement}
 use Rattle.sample.proofs.copy_plane.Tie as tie
 
-abbrev invariant-loop : tie.invariant-loop
+abbrev invariant-loop : tie.invariant-loop-i
 invariant-loop planes from width rows columns size out₀ to i₀ out i =
     (i ≤ size) × Placed (grid i size (plane_value planes from width rows columns)) to out₀ out
 
-abbrev decreases-loop : tie.decreases-loop
+abbrev decreases-loop : tie.decreases-loop-i
 decreases-loop planes from width rows columns size out₀ to i₀ out i = size - i
 
 -- the place that the others follow
-abbrev at-start : tie.At-loop invariant-loop decreases-loop → tie.Start invariant-loop decreases-loop
-at-start c = c.before.before.before
-
--- the turn's row has its place in the planes, and in the output
-read : (c : tie.In-loop invariant-loop decreases-loop) → let s = (at-start c.before).args in
-    s.from + get_or s.rows.now c.before.loop.i 0 * s.width < length s.planes.now
+read : (c : tie.In-loop-i invariant-loop decreases-loop) → let s = c.args in
+    s.from + get_or s.rows.now c.loop-i.i 0 * s.width < length s.planes.now
 read c =
-    let i = c.before.loop.i in
-    omega (arith, (at-start c.before).pre.1 i i c.loop-test.true c.loop-test.true)
+    let i = c.loop-i.i in
+    omega (arith, c.requires.1 i i c.loop-i-test.true c.loop-i-test.true)
 
-room : (c : tie.In-loop invariant-loop decreases-loop) → let s = (at-start c.before).args in
-    c.before.loop.i * s.size + s.size ≤ s.size * s.size
-room c = row_fits _ _ _ c.loop-test.true
+room : (c : tie.In-loop-i invariant-loop decreases-loop) → let s = c.args in
+    c.loop-i.i * s.size + s.size ≤ s.size * s.size
+room c = row_fits _ _ _ c.loop-i-test.true
 
-loop-holds : tie.Need-loop-init invariant-loop decreases-loop
+loop-holds : tie.Need-loop-i-init invariant-loop decreases-loop
 loop-holds c = (omega arith, rw zero-mul placed_none)
 
-mul-copy-row : tie.Need-overflow-mul-copy-row invariant-loop decreases-loop
+mul-copy-row : tie.Need-offset_bounds-rows-i invariant-loop decreases-loop
 mul-copy-row c = search rules
 
-element-copy-out-copy-row : tie.Need-element-copy-out-copy-row invariant-loop decreases-loop
+element-copy-out-copy-row : tie.Need-bounds-rows-i invariant-loop decreases-loop
 element-copy-out-copy-row c = search rules
 
-mul-copy-row-2 : tie.Need-overflow-mul-copy-row-2 invariant-loop decreases-loop
-mul-copy-row-2 c = omega (arith, read c.before)
+mul-copy-row-2 : tie.Need-overflow_mul-rows invariant-loop decreases-loop
+mul-copy-row-2 c = omega (arith, read c.before.before)
 
-add-copy-row : tie.Need-overflow-add-copy-row invariant-loop decreases-loop
-add-copy-row c = omega (arith, read c.before)
+add-copy-row : tie.Need-overflow_add-from invariant-loop decreases-loop
+add-copy-row c = omega (arith, read c.before.before)
 
-mul-copy-row-3 : tie.Need-overflow-mul-copy-row-3 invariant-loop decreases-loop
-mul-copy-row-3 c = omega (arith, room c.before.before)
+mul-copy-row-3 : tie.Need-overflow_mul-i invariant-loop decreases-loop
+mul-copy-row-3 c = omega (arith, room c.before.before.before)
 
-add-copy-row-2 : tie.Need-overflow-add-copy-row-2 invariant-loop decreases-loop
-add-copy-row-2 c = omega (arith, room c.before.before)
+add-copy-row-2 : tie.Need-overflow_add-to invariant-loop decreases-loop
+add-copy-row-2 c = omega (arith, room c.before.before.before)
 
-copy-row-requires : tie.Need-copy-row-requires invariant-loop decreases-loop
+copy-row-requires : tie.Need-copy_row-requires invariant-loop decreases-loop
 copy-row-requires c κs =
-    let turn = c.before.before in
-    let s = at-start turn.before in (
-      (s.pre.0.0, omega (arith, room turn)),
-      λ j b. s.pre.1 turn.before.loop.i j turn.loop-test.true b,
+    let turn = c in
+    let s = c in (
+      (s.requires.0.0, omega (arith, room c.before.before.before)),
+      λ j b. s.requires.1 turn.loop-i.i j turn.loop-i-test.true b,
     )
 
-add-i : tie.Need-overflow-add-i invariant-loop decreases-loop
+add-i : tie.Need-overflow_step-i invariant-loop decreases-loop
 add-i c = search rules
 
-loop-less : tie.Need-loop-smaller invariant-loop decreases-loop
+loop-less : tie.Need-loop-i-smaller invariant-loop decreases-loop
 loop-less c = search rules
 
-loop-again : tie.Need-loop-preserved invariant-loop decreases-loop
+loop-again : tie.Need-loop-i-preserved invariant-loop decreases-loop
 loop-again c =
-    let turn = c.before.before.before.before.before in
-    let at = turn.before.loop in
-    let size = (at-start turn.before).args.size in (
+    let turn = c in
+    let at = turn.loop-i in
+    let size = turn.args.size in (
       omega arith,
-      placed_row _ _ at.i size at.invariant.1 c.before.before.copy-row.ensures refl (omega (arith, room turn))
+      placed_row _ _ at.i size at.invariant.1 c.copy_row.ensures refl (omega (arith, room c.before.before.before.before.before.before))
           (λ j b. rw (digits_div at.i b, digits_mod at.i b)),
     )
 
-same_length : tie.Need-same-length invariant-loop decreases-loop
+same_length : tie.Need-shape_of-out invariant-loop decreases-loop
 same_length c = search rules
 
 returns : tie.Need-returns invariant-loop decreases-loop
 returns c =
-    let e : c.before.loop.i ≡ (at-start c.before).args.size = omega arith in
-    rw e at c.before.loop.invariant.1
+    let e : c.loop-i.i ≡ c.args.size = omega arith in
+    rw e at c.loop-i.invariant.1
 
-pub copy-plane-spec : {M : Type 1} → statement M
-copy-plane-spec =
+pub copy_plane_spec : {M : Type 1} → statement M
+copy_plane_spec =
     tie.close
     (tie.spec
     invariant-loop

@@ -8,5 +8,5 @@ returns : tie.Need-returns
 unfolding corner_above
 returns c = refl
 
-pub corner-above-spec : {M : Type 1} → statement M
-corner-above-spec = tie.close (tie.spec returns)
+pub corner_above_spec : {M : Type 1} → statement M
+corner_above_spec = tie.close (tie.spec returns)

@@ -8,5 +8,5 @@ returns : tie.Need-returns
 unfolding on_board
 returns c = refl
 
-pub on-board-spec : {M : Type 1} → statement M
-on-board-spec = tie.close (tie.spec returns)
+pub on_board_spec : {M : Type 1} → statement M
+on_board_spec = tie.close (tie.spec returns)

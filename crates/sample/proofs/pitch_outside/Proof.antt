@@ -8,5 +8,5 @@ returns : tie.Need-returns
 unfolding pitch_outside
 returns c = refl
 
-pub pitch-outside-spec : {M : Type 1} → statement M
-pitch-outside-spec = tie.close (tie.spec returns)
+pub pitch_outside_spec : {M : Type 1} → statement M
+pitch_outside_spec = tie.close (tie.spec returns)

@@ -11,18 +11,18 @@ select-requires c κs = search rules
 put-requires : tie.Need-put-requires
 put-requires c κs = search rules
 
-same_length : tie.Need-same-length
+same_length : tie.Need-shape_of-x
 same_length c = search rules
 
-same-length-2 : tie.Need-same-length-2
+same-length-2 : tie.Need-shape_of-out
 same-length-2 c = search rules
 
 returns : tie.Need-returns
 returns c =
-    let put = c.before.before in
-    let selected = put.before.before.before.before.before in
-    let s = selected.before.before.before.before in
+    let put = c in
+    let selected = c in
+    let s = c in
     rw (← tab_same s.args.m _ _ (λ l d. selected.select.ensures l (omega (arith, s.requires.0.2)) (s.requires.1 l d))) put.put.ensures
 
-pub medians-spec : {M : Type 1} → statement M
-medians-spec = tie.close (tie.spec select-requires put-requires same_length same-length-2 returns)
+pub medians_spec : {M : Type 1} → statement M
+medians_spec = tie.close (tie.spec select-requires put-requires same_length same-length-2 returns)

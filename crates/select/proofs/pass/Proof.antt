@@ -11,36 +11,33 @@ use borrow.Author.Rules.{rules}
 use Rattle.select.proofs.pass.Statement.{statement}
 use Rattle.select.proofs.pass.Tie as tie
 
-abbrev invariant-loop : tie.invariant-loop
+abbrev invariant-loop : tie.invariant-loop-k
 invariant-loop x₀ s e lo₀ hi₀ k₀ x lo hi k =
     (s + 2 ≤ k) × (k ≤ e) × (length lo ≡ list_count) × (length hi ≡ list_count) × (length x ≡ length x₀)
     × ((l : ℕ) → l < list_count → UnitsIn s e (list_of x₀ l)
     → Sifting s (k - (s + 2)) (list_of x₀ l) (get_or lo l nan) (get_or hi l nan) (list_of x l))
 
-abbrev decreases-loop : tie.decreases-loop
+abbrev decreases-loop : tie.decreases-loop-k
 decreases-loop x₀ s e lo₀ hi₀ k₀ x lo hi k = e - k
 
-slice-aggregate-start : tie.Need-slice-aggregate-start invariant-loop decreases-loop
+slice-aggregate-start : tie.Need-slice_bounds-start-end invariant-loop decreases-loop
 slice-aggregate-start c = search rules
 
-slice-aggregate-start-2 : tie.Need-slice-aggregate-start-2 invariant-loop decreases-loop
+slice-aggregate-start-2 : tie.Need-slice_bounds-start-end-2 invariant-loop decreases-loop
 slice-aggregate-start-2 c = search rules
 
 start-requires : tie.Need-start-requires invariant-loop decreases-loop
 start-requires c κs = search rules
 
-add-k : tie.Need-overflow-add-k invariant-loop decreases-loop
+add-k : tie.Need-overflow_step-k invariant-loop decreases-loop
 add-k c = search rules
 
 -- the place that the others follow
-abbrev at-start : tie.At-loop invariant-loop decreases-loop → tie.Start invariant-loop decreases-loop
-at-start c = c.before.before.before.before.before.before.before.before
-
-loop-holds : tie.Need-loop-init invariant-loop decreases-loop
+loop-holds : tie.Need-loop-k-init invariant-loop decreases-loop
 loop-holds c =
-    let s = c.before.before.before.before.before.before.before.args.s in
+    let s = c.args.s in
     let z : s + 2 - (s + 2) ≡ 0 = omega arith in
-    let E = c.before.before.start.ensures in (
+    let E = c.start.ensures in (
       omega arith,
       omega arith,
       search rules,
@@ -49,27 +46,27 @@ loop-holds c =
       λ l h u. rw z (sifting_none (u s (omega arith) (omega arith)) (u (s + 1) (omega arith) (omega arith)) (E.low l h) (E.high l h)),
     )
 
-slice-aggregate-sift : tie.Need-slice-aggregate-sift invariant-loop decreases-loop
+slice-aggregate-sift : tie.Need-slice_bounds-sift-end invariant-loop decreases-loop
 slice-aggregate-sift c = search rules
 
-slice-aggregate-sift-2 : tie.Need-slice-aggregate-sift-2 invariant-loop decreases-loop
+slice-aggregate-sift-2 : tie.Need-slice_bounds-sift-end-in-loop-k invariant-loop decreases-loop
 slice-aggregate-sift-2 c = search rules
 
 sift-requires : tie.Need-sift-requires invariant-loop decreases-loop
 sift-requires c κs = search rules
 
-add-k-2 : tie.Need-overflow-add-k-2 invariant-loop decreases-loop
+add-k-2 : tie.Need-overflow_step-k-in-loop-k invariant-loop decreases-loop
 add-k-2 c = search rules
 
-loop-less : tie.Need-loop-smaller invariant-loop decreases-loop
+loop-less : tie.Need-loop-k-smaller invariant-loop decreases-loop
 loop-less c = search rules
 
-loop-again : tie.Need-loop-preserved invariant-loop decreases-loop
+loop-again : tie.Need-loop-k-preserved invariant-loop decreases-loop
 loop-again c =
-    let at = c.before.before.before.before.before.before.before.before.before in
-    let s = (at-start at).args.s in
-    let k = at.loop.k in
-    let E = c.before.before.before.before.sift.ensures in
+    let at = c in
+    let s = at.args.s in
+    let k = at.loop-k.k in
+    let E = c.sift.ensures in
     let m : k + 1 - (s + 2) ≡ k - (s + 2) + 1 = omega arith in
     let e : k ≡ s + 2 + (k - (s + 2)) = omega arith in (
       omega arith,
@@ -79,7 +76,7 @@ loop-again c =
       search rules,
       λ l h u.
           rw m
-          (sifting_more k e (at.loop.invariant.5 l h u) (u k (omega arith) (omega arith))
+          (sifting_more k e (at.loop-k.invariant.5 l h u) (u k (omega arith) (omega arith))
           (E.low l h)
           (E.high l h)
           (E.here l h)
@@ -87,15 +84,15 @@ loop-again c =
           (E.behind l h)),
     )
 
-same_length : tie.Need-same-length invariant-loop decreases-loop
+same_length : tie.Need-shape_of-x invariant-loop decreases-loop
 same_length c = search rules
 
 returns : tie.Need-returns invariant-loop decreases-loop
 returns c =
-    let at = c.before in
-    let a = (at-start at).args in
-    let e : a.e ≡ a.s + 2 + (at.loop.k - (a.s + 2)) = omega arith in
-    λ l h u. sifting_all e (at.loop.invariant.5 l h u)
+    let at = c in
+    let a = at.args in
+    let e : a.e ≡ a.s + 2 + (at.loop-k.k - (a.s + 2)) = omega arith in
+    λ l h u. sifting_all e (at.loop-k.invariant.5 l h u)
 
 pub pass_spec : {M : Type 1} → statement M
 pass_spec =

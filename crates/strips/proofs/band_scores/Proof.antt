@@ -11,46 +11,40 @@ use Rattle.strips.proofs.band_scores.Statement.{statement}
 use Rattle.strips.proofs.band_scores.Tie as tie
 
 -- the places that the others follow
-abbrev at-start : tie.After-turn → tie.Start
-at-start c = c.before.before.before.before.before
-
-abbrev at_turn : tie.After-sweep-scores-arg → tie.After-turn
-at_turn c = c.before.before.before
-
-sub-n : tie.Need-overflow-sub-n
+sub-n : tie.Need-overflow_sub-n
 sub-n c = search rules
 
-add-n : tie.Need-overflow-add-n
+add-n : tie.Need-overflow_add-n
 add-n c = search rules
 
-add-b : tie.Need-overflow-add-b
+add-b : tie.Need-overflow_add-b
 add-b c = search rules
 
-mul-end : tie.Need-overflow-mul-end
+mul-end : tie.Need-overflow_mul-end
 mul-end c = search rules
 
-mul-turn : tie.Need-overflow-mul-turn
+mul-turn : tie.Need-overflow_mul-r
 mul-turn c = search rules
 
-add_turn : tie.Need-overflow-add-turn
+add_turn : tie.Need-overflow_add-r
 add_turn c = search rules
 
 turn-requires : tie.Need-turn-requires
 turn-requires c κs = search rules
 
-slice-reshare-prefix-sweep-scores : tie.Need-slice-reshare-prefix-sweep-scores
+slice-reshare-prefix-sweep-scores : tie.Need-slice_bounds-sweep_scores-end
 slice-reshare-prefix-sweep-scores c = search rules
 
-slice-aggregate-sweep-scores : tie.Need-slice-aggregate-sweep-scores
-slice-aggregate-sweep-scores c = sym (length-take-le _ _ (omega (arith, (at_turn c).turn.ensures.len)))
+slice-aggregate-sweep-scores : tie.Need-slice_bounds-sweep_scores-end-2
+slice-aggregate-sweep-scores c = sym (length-take-le _ _ (omega (arith, c.turn.ensures.len)))
 
-sub-sweep-scores : tie.Need-overflow-sub-sweep-scores
+sub-sweep-scores : tie.Need-overflow_sub-to
 sub-sweep-scores c = search rules
 
-sweep-scores-requires : tie.Need-sweep-scores-requires
+sweep-scores-requires : tie.Need-sweep_scores-requires
 sweep-scores-requires c κs =
-    let u = (at_turn c.before).turn.ensures in
-    let p = (at-start (at_turn c.before)).requires in (
+    let u = c.turn.ensures in
+    let p = c.requires in (
       omega arith,
       omega arith,
       omega arith,
@@ -58,26 +52,26 @@ sweep-scores-requires c κs =
       turned_marks u (omega (arith, u.len)) p.5,
     )
 
-same_length : tie.Need-same-length
+same_length : tie.Need-shape_of-turned
 same_length c = search rules
 
-same-length-2 : tie.Need-same-length-2
+same-length-2 : tie.Need-shape_of-out
 same-length-2 c = search rules
 
 returns : tie.Need-returns
 returns c =
-    let swept = c.before.before in
-    let turn = at_turn swept.before.before in
-    let a = (at-start turn).args in
+    let swept = c in
+    let turn = c in
+    let a = turn.args in
     let u = turn.turn.ensures in
     let n = a.to - a.from + 1 in
     let b = length a.out.now + 4 in
-    swept.sweep-scores.ensures
+    swept.sweep_scores.ensures
     ∙ tab_same (length a.out.now) _ _
     (λ i h. turned_score a.e.now a.r a.stride a.from n b _ _ u a.to (omega arith) i (omega arith))
 
-pub band-scores-spec : {M : Type 1} → statement M
-band-scores-spec =
+pub band_scores_spec : {M : Type 1} → statement M
+band_scores_spec =
     tie.close
     (tie.spec
     sub-n

@@ -15,103 +15,91 @@ use borrow.Author.Rules.{rules}
 use Rattle.strips.proofs.banded_scores.Statement.{statement}
 use Rattle.strips.proofs.banded_scores.Tie as tie
 
-abbrev invariant-loop : tie.invariant-loop
+abbrev invariant-loop : tie.invariant-loop-i
 invariant-loop e stride from to r turned₀ out₀ i₀ turned out i =
     (i ≤ length out₀) × (length turned ≡ length turned₀) × AtFront (swept_scores (points 1 stride e) from to r i) out₀ out
 
-abbrev decreases-loop : tie.decreases-loop
+abbrev decreases-loop : tie.decreases-loop-i
 decreases-loop e stride from to r turned₀ out₀ i₀ turned out i = length out₀ - i
 
 -- the places that the others follow
-abbrev at-start : tie.At-loop invariant-loop decreases-loop → tie.Start invariant-loop decreases-loop
-at-start c = c.before.before.before.before
-
-abbrev at-band : tie.After-band-scores-arg2 invariant-loop decreases-loop → tie.After-shorter invariant-loop decreases-loop
-at-band c = c.before.before
-
-abbrev at-loop : tie.After-band-scores-arg2 invariant-loop decreases-loop → tie.At-loop invariant-loop decreases-loop
-at-loop c = (at-band c).before.before
-
-abbrev at-scores : tie.After-slice-known4 invariant-loop decreases-loop → tie.After-band-scores invariant-loop decreases-loop
-at-scores c = c.before.before.before.before
-
-loop-holds : tie.Need-loop-init invariant-loop decreases-loop
+loop-holds : tie.Need-loop-i-init invariant-loop decreases-loop
 loop-holds c = (omega arith, refl, front_none)
 
-sub-shorter : tie.Need-overflow-sub-shorter invariant-loop decreases-loop
+sub-shorter : tie.Need-overflow_sub-out invariant-loop decreases-loop
 sub-shorter c = search rules
 
 shorter-requires : tie.Need-shorter-requires invariant-loop decreases-loop
 shorter-requires c κs = search rules
 
-add-end : tie.Need-overflow-add-end invariant-loop decreases-loop
+add-end : tie.Need-overflow_add-end invariant-loop decreases-loop
 add-end c = search rules
 
-add-band-scores : tie.Need-overflow-add-band-scores invariant-loop decreases-loop
+add-band-scores : tie.Need-overflow_add-r invariant-loop decreases-loop
 add-band-scores c = search rules
 
-mul-band-scores : tie.Need-overflow-mul-band-scores invariant-loop decreases-loop
+mul-band-scores : tie.Need-offset_bounds-out-i invariant-loop decreases-loop
 mul-band-scores c = search rules
 
-sub-band-scores : tie.Need-overflow-sub-band-scores invariant-loop decreases-loop
+sub-band-scores : tie.Need-slice_bounds-band_scores-count invariant-loop decreases-loop
 sub-band-scores c = search rules
 
-part-band-scores-start : tie.Need-slice-bounds-band-scores-start invariant-loop decreases-loop
+part-band-scores-start : tie.Need-slice_bounds-band_scores-start invariant-loop decreases-loop
 part-band-scores-start c = search rules
 
-part-band-scores-end : tie.Need-slice-bounds-band-scores-end invariant-loop decreases-loop
+part-band-scores-end : tie.Need-slice_bounds-band_scores-end invariant-loop decreases-loop
 part-band-scores-end c = search rules
 
 -- the band is lent whole
-part : (c : tie.After-band-scores-arg2 invariant-loop decreases-loop) →
-    let l = (at-loop c).loop in
-    let m = (at-band c).shorter.result in
+part : (c : tie.After-band_scores-arg-in-loop-i-1 invariant-loop decreases-loop) →
+    let l = c.loop-i in
+    let m = c.shorter.result in
     length (mid_of l.i (l.i + m - l.i) l.out) ≡ m
 part c =
-    let l = (at-loop c).loop in
-    mid_len l.i (l.i + (at-band c).shorter.result) l.out (omega (arith, l.inv.2.len)) ∙ omega arith
+    let l = c.loop-i in
+    mid_len l.i (l.i + c.shorter.result) l.out (omega (arith, l.invariant.2.len)) ∙ omega arith
 
-band-scores-requires : tie.Need-band-scores-requires invariant-loop decreases-loop
+band-scores-requires : tie.Need-band_scores-requires invariant-loop decreases-loop
 band-scores-requires c κs =
-    let p = (at-start (at-loop c)).pre in
+    let p = c.requires in
     let e = part c in
-    let l = (at-loop c).loop in (
+    let l = c.loop-i in (
       p.0,
       p.1,
       rw e (omega arith),
-      rw e (band_in _ _ _ _ _ _ _ (omega (arith, l.inv.2.len)) p.3),
-      rw e (rw l.inv.1 (scratch_in _ _ _ _ (omega (arith, l.inv.2.len)) p.4)),
+      rw e (band_in _ _ _ _ _ _ _ (omega (arith, l.invariant.2.len)) p.3),
+      rw e (rw l.invariant.1 (scratch_in _ _ _ _ (omega (arith, l.invariant.2.len)) p.4)),
       p.5,
     )
 
-loop-less : tie.Need-loop-smaller invariant-loop decreases-loop
+loop-less : tie.Need-loop-i-smaller invariant-loop decreases-loop
 loop-less c = search rules
 
-loop-again : tie.Need-loop-preserved invariant-loop decreases-loop
+loop-again : tie.Need-loop-i-preserved invariant-loop decreases-loop
 loop-again c =
-    let lent = (at-scores c).before in
-    let l = (at-loop lent).loop in
-    let m = (at-band lent).shorter.result in (
+    let lent = c in
+    let l = lent.loop-i in
+    let m = lent.shorter.result in (
       omega arith,
       search rules,
-      front_band _ _ l.i m (l.i + m - l.i) l.inv.2 (part lent) (omega arith) (at-scores c).band-scores.ensures
+      front_band _ _ l.i m (l.i + m - l.i) l.invariant.2 (part c.before.before.before.before.before) (omega arith) c.band_scores.ensures
           (λ j. rw add_assoc),
     )
 
-same_length : tie.Need-same-length invariant-loop decreases-loop
+same_length : tie.Need-shape_of-turned invariant-loop decreases-loop
 same_length c = search rules
 
-same-length-2 : tie.Need-same-length-2 invariant-loop decreases-loop
+same-length-2 : tie.Need-shape_of-out invariant-loop decreases-loop
 same-length-2 c = search rules
 
 returns : tie.Need-returns invariant-loop decreases-loop
 returns c =
-    let l = c.before.loop in
-    let e : l.i ≡ length (at-start c.before).args.out.now = omega arith in
+    let l = c.loop-i in
+    let e : l.i ≡ length c.args.out.now = omega arith in
     front_all (rw e at l.invariant.2) (length_tab_from 0 _ _)
 
-pub banded-scores-spec : {M : Type 1} → statement M
-banded-scores-spec =
+pub banded_scores_spec : {M : Type 1} → statement M
+banded_scores_spec =
     tie.close
     (tie.spec
     invariant-loop

@@ -9,80 +9,71 @@ use borrow.Author.Rules.{rules}
 use Rattle.strips.proofs.turn.Statement.{statement}
 use Rattle.strips.proofs.turn.Tie as tie
 
-abbrev invariant-loop : tie.invariant-loop
+abbrev invariant-loop : tie.invariant-loop-i
 invariant-loop e first stride n t₀ b i₀ t i = (i ≤ b) × Turned e first stride n b 0 i t₀ t
 
-abbrev decreases-loop : tie.decreases-loop
+abbrev decreases-loop : tie.decreases-loop-i
 decreases-loop e first stride n t₀ b i₀ t i = b - i
 
 -- the places that the others follow
-abbrev at-start : tie.At-loop invariant-loop decreases-loop → tie.Start invariant-loop decreases-loop
-at-start c = c.before.before.before
-
-abbrev at-loop : tie.After-turn-rows invariant-loop decreases-loop → tie.At-loop invariant-loop decreases-loop
-at-loop c = c.before.before.before
-
-abbrev at_last : tie.After-turn-rows2 invariant-loop decreases-loop → tie.At-loop invariant-loop decreases-loop
-at_last c = c.before.before.before
-
-loop-holds : tie.Need-loop-init invariant-loop decreases-loop
+loop-holds : tie.Need-loop-i-init invariant-loop decreases-loop
 loop-holds c = (omega arith, turned_start _ _ _)
 
-sub-loop : tie.Need-overflow-sub-loop invariant-loop decreases-loop
+sub-loop : tie.Need-overflow_sub-b invariant-loop decreases-loop
 sub-loop c = search rules
 
-place : (c : tie.In-loop invariant-loop decreases-loop) →
-    let a = (at-start c.before).args in
-    c.before.loop.i * a.stride + 8 * a.stride ≤ a.b * a.stride
+place : (c : tie.In-loop-i invariant-loop decreases-loop) →
+    let a = c.args in
+    c.loop-i.i * a.stride + 8 * a.stride ≤ a.b * a.stride
 place c = rows_fit _ _ _ _ (omega arith)
 
-mul-turn-rows : tie.Need-overflow-mul-turn-rows invariant-loop decreases-loop
+mul-turn-rows : tie.Need-overflow_mul-i invariant-loop decreases-loop
 mul-turn-rows c = omega (arith, place c)
 
-add-turn-rows : tie.Need-overflow-add-turn-rows invariant-loop decreases-loop
+add-turn-rows : tie.Need-overflow_add-first invariant-loop decreases-loop
 add-turn-rows c = omega (arith, place c)
 
-turn-rows-requires : tie.Need-turn-rows-requires invariant-loop decreases-loop
+turn-rows-requires : tie.Need-turn_rows-requires invariant-loop decreases-loop
 turn-rows-requires c κs = omega (arith, place c.before)
 
-add-i : tie.Need-overflow-add-i invariant-loop decreases-loop
+add-i : tie.Need-overflow_add-i invariant-loop decreases-loop
 add-i c = search rules
 
-loop-less : tie.Need-loop-smaller invariant-loop decreases-loop
+loop-less : tie.Need-loop-i-smaller invariant-loop decreases-loop
 loop-less c = search rules
 
-loop-again : tie.Need-loop-preserved invariant-loop decreases-loop
+loop-again : tie.Need-loop-i-preserved invariant-loop decreases-loop
 loop-again c =
-    let rows = c.before.before in
-    (omega arith, turned_more (at-loop rows).loop.invariant.1 rows.turn-rows.ensures)
+    let rows = c in
+    (omega arith, turned_more rows.loop-i.invariant.1 rows.turn_rows.ensures)
 
-rest : (c : tie.After-loop invariant-loop decreases-loop) →
-    let a = (at-start c.before).args in
-    c.before.loop.i * a.stride + (a.b - c.before.loop.i) * a.stride ≤ a.b * a.stride
+rest : (c : tie.After-loop-i invariant-loop decreases-loop) →
+    let a = c.args in
+    c.loop-i.i * a.stride + (a.b - c.loop-i.i) * a.stride ≤ a.b * a.stride
 rest c = rows_fit _ _ _ _ (omega arith)
 
-mul-turn-rows-2 : tie.Need-overflow-mul-turn-rows-2 invariant-loop decreases-loop
+mul-turn-rows-2 : tie.Need-overflow_mul-i-2 invariant-loop decreases-loop
 mul-turn-rows-2 c = omega (arith, rest c)
 
-add-turn-rows-2 : tie.Need-overflow-add-turn-rows-2 invariant-loop decreases-loop
+add-turn-rows-2 : tie.Need-overflow_add-first-2 invariant-loop decreases-loop
 add-turn-rows-2 c = omega (arith, rest c)
 
-sub-turn-rows : tie.Need-overflow-sub-turn-rows invariant-loop decreases-loop
+sub-turn-rows : tie.Need-overflow_sub-b-2 invariant-loop decreases-loop
 sub-turn-rows c = search rules
 
-turn-rows-requires-2 : tie.Need-turn-rows-requires-2 invariant-loop decreases-loop
+turn-rows-requires-2 : tie.Need-turn_rows-requires-2 invariant-loop decreases-loop
 turn-rows-requires-2 c κs = omega (arith, rest c.before)
 
-same_length : tie.Need-same-length invariant-loop decreases-loop
+same_length : tie.Need-shape_of-t invariant-loop decreases-loop
 same_length c = search rules
 
 returns : tie.Need-returns invariant-loop decreases-loop
 returns c =
-    let rows = c.before.before in
-    let l = (at_last rows).loop in
-    let b = (at-start (at_last rows)).args.b in
+    let rows = c in
+    let l = rows.loop-i in
+    let b = rows.args.b in
     let e : l.i + (b - l.i) ≡ b = omega arith in
-    rw e at (turned_more l.inv.1 rows.turn-rows2.ensures)
+    rw e at (turned_more l.invariant.1 rows.turn_rows-2.ensures)
 
 pub turn_spec : {M : Type 1} → statement M
 turn_spec =

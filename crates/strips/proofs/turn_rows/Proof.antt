@@ -9,60 +9,54 @@ use borrow.Author.Rules.{rules}
 use Rattle.strips.proofs.turn_rows.Statement.{statement}
 use Rattle.strips.proofs.turn_rows.Tie as tie
 
-abbrev invariant-loop : tie.invariant-loop
+abbrev invariant-loop : tie.invariant-loop-j
 invariant-loop e first stride n t₀ b i w j₀ t j = (j ≤ n) × Turned e first stride j b i w t₀ t
 
-abbrev decreases-loop : tie.decreases-loop
+abbrev decreases-loop : tie.decreases-loop-j
 decreases-loop e first stride n t₀ b i w j₀ t j = n - j
 
 -- the places that the others follow
-abbrev at-start : tie.At-loop invariant-loop decreases-loop → tie.Start invariant-loop decreases-loop
-at-start c = c.before.before.before
-
-abbrev at-loop : tie.After-copy-down invariant-loop decreases-loop → tie.At-loop invariant-loop decreases-loop
-at-loop c = c.before.before.before
-
-loop-holds : tie.Need-loop-init invariant-loop decreases-loop
+loop-holds : tie.Need-loop-j-init invariant-loop decreases-loop
 loop-holds c = (omega arith, turned_none _ _ _ _)
 
-add-copy-down : tie.Need-overflow-add-copy-down invariant-loop decreases-loop
+add-copy-down : tie.Need-overflow_add-first invariant-loop decreases-loop
 add-copy-down c = search rules
 
-place : (c : tie.In-loop invariant-loop decreases-loop) →
-    let a = (at-start c.before).args in
-    c.before.loop.j * a.b + a.b ≤ a.n * a.b
-place c = row_fits _ _ _ c.loop-test.true
+place : (c : tie.In-loop-j invariant-loop decreases-loop) →
+    let a = c.args in
+    c.loop-j.j * a.b + a.b ≤ a.n * a.b
+place c = row_fits _ _ _ c.loop-j-test.true
 
-mul-copy-down : tie.Need-overflow-mul-copy-down invariant-loop decreases-loop
+mul-copy-down : tie.Need-overflow_mul-j invariant-loop decreases-loop
 mul-copy-down c = omega (arith, place c.before)
 
-add-copy-down-2 : tie.Need-overflow-add-copy-down-2 invariant-loop decreases-loop
+add-copy-down-2 : tie.Need-overflow_add-j invariant-loop decreases-loop
 add-copy-down-2 c = omega (arith, place c.before)
 
-copy-down-requires : tie.Need-copy-down-requires invariant-loop decreases-loop
+copy-down-requires : tie.Need-copy_down-requires invariant-loop decreases-loop
 copy-down-requires c κs = omega (arith, place c.before)
 
-add-j : tie.Need-overflow-add-j invariant-loop decreases-loop
+add-j : tie.Need-overflow_step-j invariant-loop decreases-loop
 add-j c = search rules
 
-loop-less : tie.Need-loop-smaller invariant-loop decreases-loop
+loop-less : tie.Need-loop-j-smaller invariant-loop decreases-loop
 loop-less c = search rules
 
-loop-again : tie.Need-loop-preserved invariant-loop decreases-loop
+loop-again : tie.Need-loop-j-preserved invariant-loop decreases-loop
 loop-again c =
-    let row = c.before.before in
-    (omega arith, turned_row (at-loop row).loop.invariant.1 (omega arith) row.copy-down.ensures)
+    let row = c in
+    (omega arith, turned_row row.loop-j.invariant.1 (omega arith) row.copy_down.ensures)
 
-same_length : tie.Need-same-length invariant-loop decreases-loop
+same_length : tie.Need-shape_of-t invariant-loop decreases-loop
 same_length c = search rules
 
 returns : tie.Need-returns invariant-loop decreases-loop
 returns c =
-    let e : c.before.loop.j ≡ (at-start c.before).args.n = omega arith in
-    rw e at c.before.loop.invariant.1
+    let e : c.loop-j.j ≡ c.args.n = omega arith in
+    rw e at c.loop-j.invariant.1
 
-pub turn-rows-spec : {M : Type 1} → statement M
-turn-rows-spec =
+pub turn_rows_spec : {M : Type 1} → statement M
+turn_rows_spec =
     tie.close
     (tie.spec
     invariant-loop

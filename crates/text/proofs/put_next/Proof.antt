@@ -5,20 +5,20 @@ use borrow.Author.Rules.{rules}
 use Rattle.text.proofs.put_next.Statement.{statement}
 use Rattle.text.proofs.put_next.Tie as tie
 
-put-requires : tie.Need-put-requires
+put-requires : tie.Need-put-next-requires
 put-requires c κs = search rules
 
-put-number-requires : tie.Need-put-number-requires
+put-number-requires : tie.Need-put_number-requires
 put-number-requires c κs = search rules
 
-same_length : tie.Need-same-length
+same_length : tie.Need-shape_of-out
 same_length c = search rules
 
 returns : tie.Need-returns
 returns c =
     let put = c.before.before.before.before.before.before in
-    puts_join put.put.ensures c.before.before.put-number.ensures
-    (omega (arith, put.before.before.before.requires, put.put.ensures.next_is))
+    puts_join put.put-next.ensures c.before.before.put_number.ensures
+    (omega (arith, put.before.before.before.requires, put.put-next.ensures.next_is))
 
-pub put-next-spec : {M : Type 1} → statement M
-put-next-spec = tie.close (tie.spec put-requires put-number-requires same_length returns)
+pub put_next_spec : {M : Type 1} → statement M
+put_next_spec = tie.close (tie.spec put-requires put-number-requires same_length returns)

@@ -13,7 +13,7 @@ use borrow.Author.Rules.{rules}
 use Rattle.text.proofs.put_number.Statement.{statement}
 use Rattle.text.proofs.put_number.Tie as tie
 
-abbrev invariant-loop : tie.invariant-loop
+abbrev invariant-loop : tie.invariant-loop-rest
 invariant-loop out₀ at n end rest₀ k₀ out rest k =
     (rest ≤ n)
     × (k ≡ at + length (decimal rest))
@@ -21,34 +21,34 @@ invariant-loop out₀ at n end rest₀ k₀ out rest k =
     × (length out ≡ length out₀)
     × ((after : List ℕ) → Puts (decimal rest) at out k after → Puts (decimal n) at out₀ end after)
 
-abbrev decreases-loop : tie.decreases-loop
+abbrev decreases-loop : tie.decreases-loop-rest
 decreases-loop out₀ at n end rest₀ k₀ out rest k = rest
 
 digits-requires : tie.Need-digits-requires invariant-loop decreases-loop
 digits-requires c κs = search rules
 
-add-end : tie.Need-overflow-add-end invariant-loop decreases-loop
+add-end : tie.Need-overflow_add-end invariant-loop decreases-loop
 add-end c = search rules
 
-loop-holds : tie.Need-loop-init invariant-loop decreases-loop
+loop-holds : tie.Need-loop-rest-init invariant-loop decreases-loop
 loop-holds c = search rules
 
-sub-k : tie.Need-overflow-sub-k invariant-loop decreases-loop
-sub-k c = omega (arith, length_more c.before.loop.rest c.loop-test.true (omega arith))
+sub-k : tie.Need-overflow_sub-k invariant-loop decreases-loop
+sub-k c = omega (arith, length_more c.before.loop-rest.rest c.loop-rest-test.true (omega arith))
 
 digit-requires : tie.Need-digit-requires invariant-loop decreases-loop
 digit-requires c κs = search rules
 
-slice-write-out : tie.Need-slice-write-out invariant-loop decreases-loop
-slice-write-out c = omega (arith, length_more c.before.before.loop.rest c.before.loop-test.true (omega arith))
+slice-write-out : tie.Need-bounds-out-k invariant-loop decreases-loop
+slice-write-out c = omega (arith, length_more c.before.before.loop-rest.rest c.before.loop-rest-test.true (omega arith))
 
-loop-less : tie.Need-loop-smaller invariant-loop decreases-loop
+loop-less : tie.Need-loop-rest-smaller invariant-loop decreases-loop
 loop-less c = search rules
 
-loop-again : tie.Need-loop-preserved invariant-loop decreases-loop
+loop-again : tie.Need-loop-rest-preserved invariant-loop decreases-loop
 loop-again c =
-    let at-loop = c.before.before.loop in
-    let taken = c.before.loop-test.true in
+    let at-loop = c.before.before.loop-rest in
+    let taken = c.before.loop-rest-test.true in
     let more = length_more at-loop.rest taken (omega arith) in
     let last = decimal_more at-loop.rest taken (omega arith) in (
       omega arith,
@@ -61,21 +61,21 @@ loop-again c =
 digit-requires-2 : tie.Need-digit-requires-2 invariant-loop decreases-loop
 digit-requires-2 c κs = search rules
 
-slice-write-out-2 : tie.Need-slice-write-out-2 invariant-loop decreases-loop
-slice-write-out-2 c = omega (arith, ap length (decimal_one c.before.before.loop.rest c.before.loop-test.false))
+slice-write-out-2 : tie.Need-bounds-out-at invariant-loop decreases-loop
+slice-write-out-2 c = omega (arith, ap length (decimal_one c.before.before.loop-rest.rest c.before.loop-rest-test.false))
 
-same_length : tie.Need-same-length invariant-loop decreases-loop
+same_length : tie.Need-shape_of-out invariant-loop decreases-loop
 same_length c = search rules
 
 returns : tie.Need-returns invariant-loop decreases-loop
 returns c =
-    let at-loop = c.before.before.loop in
-    let one = decimal_one at-loop.rest c.before.loop-test.false in
+    let at-loop = c.before.before.loop-rest in
+    let one = decimal_one at-loop.rest c.before.loop-rest-test.false in
     let end : at-loop.k ≡ c.before.before.before.before.before.args.at + 1 = omega (arith, ap length one) in
-    at-loop.invariant.4 _ (rw (one, ← c.digit2.ensures, end) (puts_byte _ _ _ (omega arith)))
+    at-loop.invariant.4 _ (rw (one, ← c.digit-2.ensures, end) (puts_byte _ _ _ (omega arith)))
 
-pub put-number-spec : {M : Type 1} → statement M
-put-number-spec =
+pub put_number_spec : {M : Type 1} → statement M
+put_number_spec =
     tie.close
     (tie.spec
     invariant-loop

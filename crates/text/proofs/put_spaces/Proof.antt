@@ -11,46 +11,46 @@ use borrow.Author.Rules.{rules}
 use Rattle.text.proofs.put_spaces.Statement.{statement}
 use Rattle.text.proofs.put_spaces.Tie as tie
 
-abbrev invariant-loop : tie.invariant-loop
+abbrev invariant-loop : tie.invariant-loop-k
 invariant-loop out₀ at n k₀ out k = (k ≤ n) × Placed (tab k (λ _. 32)) at out₀ out
 
-abbrev decreases-loop : tie.decreases-loop
+abbrev decreases-loop : tie.decreases-loop-k
 decreases-loop out₀ at n k₀ out k = n - k
 
-loop-holds : tie.Need-loop-init invariant-loop decreases-loop
+loop-holds : tie.Need-loop-k-init invariant-loop decreases-loop
 loop-holds c = (omega arith, placed_none)
 
-add-out : tie.Need-overflow-add-out invariant-loop decreases-loop
+add-out : tie.Need-overflow_add-out invariant-loop decreases-loop
 add-out c = search rules
 
-slice-write-out : tie.Need-slice-write-out invariant-loop decreases-loop
+slice-write-out : tie.Need-bounds-out-at invariant-loop decreases-loop
 slice-write-out c = search rules
 
-add-k : tie.Need-overflow-add-k invariant-loop decreases-loop
+add-k : tie.Need-overflow_step-k invariant-loop decreases-loop
 add-k c = search rules
 
-loop-less : tie.Need-loop-smaller invariant-loop decreases-loop
+loop-less : tie.Need-loop-k-smaller invariant-loop decreases-loop
 loop-less c = search rules
 
-loop-again : tie.Need-loop-preserved invariant-loop decreases-loop
+loop-again : tie.Need-loop-k-preserved invariant-loop decreases-loop
 loop-again c =
-    let at = c.before.loop in
+    let at = c.before.loop-k in
     (omega arith, placed_more _ at.k at.invariant.1 (omega arith) refl)
 
-add-result : tie.Need-overflow-add-result invariant-loop decreases-loop
+add-result : tie.Need-overflow_add-result invariant-loop decreases-loop
 add-result c = search rules
 
-same_length : tie.Need-same-length invariant-loop decreases-loop
+same_length : tie.Need-shape_of-out invariant-loop decreases-loop
 same_length c = search rules
 
 returns : tie.Need-returns invariant-loop decreases-loop
 returns c =
     let n = c.before.before.args.n in
-    let e : c.before.loop.k ≡ n = omega arith in
-    record { next_is = rw (length-replicate {A = ℕ} n 32); placed = rw (e, tab_replicate {A = ℕ} n 32) at c.before.loop.invariant.1 }
+    let e : c.before.loop-k.k ≡ n = omega arith in
+    record { next_is = rw (length-replicate {A = ℕ} n 32); placed = rw (e, tab_replicate {A = ℕ} n 32) at c.before.loop-k.invariant.1 }
 
-pub put-spaces-spec : {M : Type 1} → statement M
-put-spaces-spec =
+pub put_spaces_spec : {M : Type 1} → statement M
+put_spaces_spec =
     tie.close
     (tie.spec
     invariant-loop

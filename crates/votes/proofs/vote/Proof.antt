@@ -6,38 +6,38 @@ use borrow.Author.Rules.{rules}
 use Rattle.votes.proofs.vote.Statement.{statement}
 use Rattle.votes.proofs.vote.Tie as tie
 
-mul-row : tie.Need-overflow-mul-row
+mul-row : tie.Need-offset_bounds-row-o
 mul-row c = search rules
 
-slice-read-row : tie.Need-slice-read-row
+slice-read-row : tie.Need-bounds-row-o
 slice-read-row c = search rules
 
-add_row : tie.Need-overflow-add-row
+add_row : tie.Need-overflow_add-row
 add_row c =
-    let at = c.before.before.before in
+    let at = c in
     let a = at.args in
-    omega (arith, at.requires.1 (a.l - a.s) c.before.if2.true, hit_there a.l a.s (omega arith))
+    omega (arith, at.requires.1 (a.l - a.s) c.if-o-width.true, hit_there a.l a.s (omega arith))
 
-mul-row-2 : tie.Need-overflow-mul-row-2
+mul-row-2 : tie.Need-offset_bounds-row-o-then-o-width
 mul-row-2 c = search rules
 
-slice-write-row : tie.Need-slice-write-row
+slice-write-row : tie.Need-bounds-row-o-then-o-width
 slice-write-row c = search rules
 
-same_length : tie.Need-same-length
+same_length : tie.Need-shape_of-row
 same_length c = search rules
 
-returns : tie.Need-returns
-returns c = let a = c.before.before.before.args in hit_one a.width a.row.now a.l a.s (omega arith) (omega arith)
+returns : tie.Need-returns-then-o-width
+returns c = let a = c.args in hit_one a.width a.row.now a.l a.s (omega arith) (omega arith)
 
-returns-2 : tie.Need-returns-2
-returns-2 c = let a = c.before.before.args in hit_none a.width a.row.now a.l a.s (λ o b e. omega arith)
+returns-2 : tie.Need-returns-else-o-width
+returns-2 c = let a = c.args in hit_none a.width a.row.now a.l a.s (λ o b e. omega arith)
 
-returns-3 : tie.Need-returns-3
-returns-3 c = let a = c.before.args in hit_none a.width a.row.now a.l a.s (λ o b e. omega arith)
+returns-3 : tie.Need-returns-else-s-l
+returns-3 c = let a = c.args in hit_none a.width a.row.now a.l a.s (λ o b e. omega arith)
 
-pub vote-spec : {M : Type 1} → statement M
-vote-spec =
+pub vote_spec : {M : Type 1} → statement M
+vote_spec =
     tie.close
     (tie.spec
     mul-row

@@ -11,69 +11,60 @@ use borrow.Author.Rules.{rules}
 use Rattle.votes.proofs.vote_line.Statement.{statement}
 use Rattle.votes.proofs.vote_line.Tie as tie
 
-abbrev invariant-loop : tie.invariant-loop
+abbrev invariant-loop : tie.invariant-loop-n
 invariant-loop row₀ width l q from end n₀ row n =
     (length row ≡ length row₀) × Adding width (λ o. votes_of_line l q o n (end - n)) (λ o. votes_of_line l q o from (end - from)) row₀ row
 
-abbrev decreases-loop : tie.decreases-loop
+abbrev decreases-loop : tie.decreases-loop-n
 decreases-loop row₀ width l q from end n₀ row n = end - n
 
 -- the places that the others follow
-abbrev start : tie.At-loop invariant-loop decreases-loop → tie.Start invariant-loop decreases-loop
-start c = c.before.before
-
-abbrev turn : tie.After-vote invariant-loop decreases-loop → tie.In-loop invariant-loop decreases-loop
-turn c = c.before.before
-
-abbrev voted : tie.After-vote-arg2 invariant-loop decreases-loop → tie.After-vote invariant-loop decreases-loop
-voted c = c.before.before.before
-
-loop-holds : tie.Need-loop-init invariant-loop decreases-loop
+loop-holds : tie.Need-loop-n-init invariant-loop decreases-loop
 loop-holds c = (refl, adding_none)
 
-mul-s : tie.Need-overflow-mul-s invariant-loop decreases-loop
+mul-s : tie.Need-overflow_mul-s invariant-loop decreases-loop
 mul-s c =
-    let a = (start c.before).args in
-    omega (arith, mul-le-mul {n₁ = c.before.loop.n} {m₁ = a.q} {n₂ = 512} {m₂ = 800} (omega arith) (omega arith))
+    let a = c.args in
+    omega (arith, mul-le-mul {n₁ = c.loop-n.n} {m₁ = a.q} {n₂ = 512} {m₂ = 800} (omega arith) (omega arith))
 
 vote-requires : tie.Need-vote-requires invariant-loop decreases-loop
 vote-requires c κs =
-    let at = c.before.before in
-    (omega arith, adding_fits _ _ at.loop.invariant.1 (start at).requires.1 (votes_of_line_more _ _ _ _ c.before.loop-test.true))
+    let at = c in
+    (omega arith, adding_fits _ _ at.loop-n.invariant.1 at.requires.1 (votes_of_line_more _ _ _ _ c.loop-n-test.true))
 
-add-vote : tie.Need-overflow-add-vote invariant-loop decreases-loop
+add-vote : tie.Need-overflow_add-l invariant-loop decreases-loop
 add-vote c = search rules
 
-vote-requires-2 : tie.Need-vote-requires-2 invariant-loop decreases-loop
+vote-requires-2 : tie.Need-vote-requires-in-loop-n invariant-loop decreases-loop
 vote-requires-2 c κs =
-    let here = turn (voted c) in
-    let vote = (voted c).vote.ensures in
-    let first = adding_more here.before.loop.inv.1 vote (votes_of_line_more _ _ _ _ here.loop-test.taken) in
-    (omega (arith, vote.len), adding_fits _ _ first (start here.before).pre.1 (λ o. refl))
+    let here = c in
+    let vote = c.vote.ensures in
+    let first = adding_more here.loop-n.invariant.1 vote (votes_of_line_more _ _ _ _ here.loop-n-test.true) in
+    (omega (arith, vote.len), adding_fits _ _ first here.requires.1 (λ o. refl))
 
-add-n : tie.Need-overflow-add-n invariant-loop decreases-loop
+add-n : tie.Need-overflow_step-n invariant-loop decreases-loop
 add-n c = search rules
 
-loop-less : tie.Need-loop-smaller invariant-loop decreases-loop
+loop-less : tie.Need-loop-n-smaller invariant-loop decreases-loop
 loop-less c = search rules
 
-loop-again : tie.Need-loop-preserved invariant-loop decreases-loop
+loop-again : tie.Need-loop-n-preserved invariant-loop decreases-loop
 loop-again c =
-    let second = c.before.before in
-    let here = turn (voted second.before) in
-    let more = votes_of_line_more _ _ _ _ here.loop-test.taken in
-    let first = adding_more here.before.loop.inv.1 (voted second.before).vote.ensures more in
-    let both = adding_more first second.vote2.ensures (λ o. refl) in
+    let second = c in
+    let here = c in
+    let more = votes_of_line_more _ _ _ _ here.loop-n-test.true in
+    let first = adding_more here.loop-n.invariant.1 second.vote.ensures more in
+    let both = adding_more first second.vote-in-loop-n.ensures (λ o. refl) in
     (both.len, both)
 
-same_length : tie.Need-same-length invariant-loop decreases-loop
+same_length : tie.Need-shape_of-row invariant-loop decreases-loop
 same_length c = search rules
 
 returns : tie.Need-returns invariant-loop decreases-loop
-returns c = adding_done c.before.loop.invariant.1 (votes_of_line_none _ _ _ _ c.loop-test.false)
+returns c = adding_done c.loop-n.invariant.1 (votes_of_line_none _ _ _ _ c.loop-n-test.false)
 
-pub vote-line-spec : {M : Type 1} → statement M
-vote-line-spec =
+pub vote_line_spec : {M : Type 1} → statement M
+vote_line_spec =
     tie.close
     (tie.spec
     invariant-loop

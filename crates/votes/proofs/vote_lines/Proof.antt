@@ -10,89 +10,83 @@ use borrow.Author.Rules.{rules}
 use Rattle.votes.proofs.vote_lines.Statement.{statement}
 use Rattle.votes.proofs.vote_lines.Tie as tie
 
-abbrev invariant-loop : tie.invariant-loop
+abbrev invariant-loop : tie.invariant-loop-k
 invariant-loop row₀ width lines e q k₀ k-end row k =
     (k ≤ length lines) × (k-end ≡ length lines) × (length row ≡ length row₀)
     × Adding width (λ o. votes e (drop k lines) o q) (λ o. votes e lines o q) row₀ row
 
-abbrev decreases-loop : tie.decreases-loop
+abbrev decreases-loop : tie.decreases-loop-k
 decreases-loop row₀ width lines e q k₀ k-end row k = length lines - k
 
 -- the places that the others follow
-abbrev start : tie.At-loop invariant-loop decreases-loop → tie.Start invariant-loop decreases-loop
-start c = c.before.before.before
-
-abbrev at-loop : tie.After-min-pitch invariant-loop decreases-loop → tie.At-loop invariant-loop decreases-loop
-at-loop c = c.before.before.before.before.before
-
-loop-holds : tie.Need-loop-init invariant-loop decreases-loop
+loop-holds : tie.Need-loop-k-init invariant-loop decreases-loop
 loop-holds c = (omega arith, refl, refl, adding_none)
 
-mul-l : tie.Need-overflow-mul-l invariant-loop decreases-loop
+mul-l : tie.Need-offset_bounds-lines-k invariant-loop decreases-loop
 mul-l c = search rules
 
-shared-slice-read-l : tie.Need-shared-slice-read-l invariant-loop decreases-loop
+shared-slice-read-l : tie.Need-bounds-lines-k invariant-loop decreases-loop
 shared-slice-read-l c = search rules
 
-cast-l : tie.Need-overflow-cast-l invariant-loop decreases-loop
-cast-l c = omega (arith, c.shared-slice-known2.given c.before.before.loop.k)
+cast-l : tie.Need-overflow_cast-l invariant-loop decreases-loop
+cast-l c = omega (arith, c.shared_slice_known-in-loop-k-1.given c.loop-k.k)
 
-max-pitch-requires : tie.Need-max-pitch-requires invariant-loop decreases-loop
+max-pitch-requires : tie.Need-max_pitch-requires invariant-loop decreases-loop
 max-pitch-requires c κs = search rules
 
-div-vote-line : tie.Need-nonzero-div-vote-line invariant-loop decreases-loop
-div-vote-line c = omega (arith, c.max-pitch.ensures)
+div-vote-line : tie.Need-nonzero_div-l invariant-loop decreases-loop
+div-vote-line c = omega (arith, c.max_pitch.ensures)
 
-min-pitch-requires : tie.Need-min-pitch-requires invariant-loop decreases-loop
+min-pitch-requires : tie.Need-min_pitch-requires invariant-loop decreases-loop
 min-pitch-requires c κs = search rules
 
-div-vote-line-2 : tie.Need-nonzero-div-vote-line-2 invariant-loop decreases-loop
-div-vote-line-2 c = omega (arith, c.min-pitch.ensures)
+div-vote-line-2 : tie.Need-nonzero_div-l-in-loop-k invariant-loop decreases-loop
+div-vote-line-2 c = omega (arith, c.min_pitch.ensures)
 
-add-vote-line : tie.Need-overflow-add-vote-line invariant-loop decreases-loop
+add-vote-line : tie.Need-overflow_add-l invariant-loop decreases-loop
 add-vote-line c =
-    let at = at-loop c in
-    let first = start at in
-    let l = get_or first.args.lines.now at.loop.k 0 in
-    omega (arith, turns first.args.e l _ c.min-pitch.ensures (first.pre.0.1 at.loop.k))
+    let at = c in
+    let first = c in
+    let l = get_or first.args.lines.now at.loop-k.k 0 in
+    omega (arith, turns first.args.e l _ c.min_pitch.ensures (first.requires.0.1 at.loop-k.k))
 
-vote-line-requires : tie.Need-vote-line-requires invariant-loop decreases-loop
+vote-line-requires : tie.Need-vote_line-requires invariant-loop decreases-loop
 vote-line-requires c κs =
-    let at = (at-loop c).loop in
-    let first = start (at-loop c) in
+    let at = c.loop-k in
+    let first = c in
     let a = first.args in
-    let most = c.before.max-pitch.ensures in
-    let more = votes_more a.e a.lines.now at.k a.q _ _ (omega arith) most c.min-pitch.ensures in (
-      (omega arith, first.pre.0.1 at.k, first.pre.0.2, turns a.e _ _ c.min-pitch.ensures (first.pre.0.1 at.k)),
-      adding_fits _ _ at.inv.3 first.pre.1 more,
+    let most = c.max_pitch.ensures in
+    let more = votes_more a.e a.lines.now at.k a.q _ _ (omega arith) most c.min_pitch.ensures in (
+      (omega arith, first.requires.0.1 at.k, first.requires.0.2, turns a.e _ _ c.min_pitch.ensures (first.requires.0.1 at.k)),
+      adding_fits _ _ at.invariant.3 first.requires.1 more,
     )
 
-add-k : tie.Need-overflow-add-k invariant-loop decreases-loop
+add-k : tie.Need-overflow_step-k invariant-loop decreases-loop
 add-k c = search rules
 
-loop-less : tie.Need-loop-smaller invariant-loop decreases-loop
+loop-less : tie.Need-loop-k-smaller invariant-loop decreases-loop
 loop-less c = search rules
 
-loop-again : tie.Need-loop-preserved invariant-loop decreases-loop
+loop-again : tie.Need-loop-k-preserved invariant-loop decreases-loop
 loop-again c =
-    let calls = c.before.before.before in
-    let at = (at-loop calls).loop in
-    let a = (start (at-loop calls)).args in
-    let most = calls.before.max-pitch.ensures in
-    let more = votes_more a.e a.lines.now at.k a.q _ _ (omega arith) most calls.min-pitch.ensures in
-    let next = adding_more at.inv.3 c.before.before.vote-line.ensures more in
+    let calls = c in
+    let at = calls.loop-k in
+    let a = calls.args in
+    let most = calls.max_pitch.ensures in
+    let more = votes_more a.e a.lines.now at.k a.q _ _ (omega arith) most calls.min_pitch.ensures in
+    let next = adding_more at.invariant.3 c.vote_line.ensures more in
     (omega arith, refl, next.len, next)
 
-same_length : tie.Need-same-length invariant-loop decreases-loop
+same_length : tie.Need-shape_of-row invariant-loop decreases-loop
 same_length c = search rules
 
 returns : tie.Need-returns invariant-loop decreases-loop
 returns c =
-    let end : length (start c.before).args.lines.now ≤ c.before.loop.k = omega arith in
-    adding_done c.before.loop.invariant.3 (votes_none _ _ _ _ end)
+    let end : length c.args.lines.now ≤ c.loop-k.k = omega arith in
+    adding_done c.loop-k.invariant.3 (votes_none _ _ _ _ end)
 
-pub vote-lines-spec : {M : Type 1} → statement M
-vote-lines-spec =
+pub vote_lines_spec : {M : Type 1} → statement M
+vote_lines_spec =
     tie.close
     (tie.spec
     invariant-loop
