@@ -144,9 +144,9 @@ returns-2 c =
     accepts (board c.before.before.before.before.before.before.before.before.before.before.before.before.before.before.before.before.before.before.before.before.before.before) (factor c.before.before.before.before.before.before.before.before.before.before.before.before.before.before.before.before.before.before.before.before.before.before) (slices c.before.before.before.before.before.before.before.before.before.before.before.before.before.before.before.before.before.before.before.before.before.before) _ _ _ (passed c.before.before.before.before.before.before.before.before.before.before.before.before.before.before.before.before.before.before.before.before.before) done.work.ensures
     refl refl refl refl refl refl
     (record {
-      f32_kept = drop_at after.1.1.1.1.1.0 _ _ (same.1.1.1.1.1.0 ∙ length-take-le _ _ r.f32_in);
-      u8_kept = drop_at after.1.1.1.1.1.1.0 _ _ (same.1.1.1.1.1.1.0 ∙ length-take-le _ _ r.u8_in);
-      u32_kept = drop_at after.1.1.1.1.1.1.1.0 _ _ (same.1.1.1.1.1.1.1.0 ∙ length-take-le _ _ r.u32_in);
+      f32_kept = drop_at after.scratch_f32 _ _ (same.scratch_f32 ∙ length-take-le _ _ r.f32_in);
+      u8_kept = drop_at after.scratch_u8 _ _ (same.scratch_u8 ∙ length-take-le _ _ r.u8_in);
+      u32_kept = drop_at after.scratch_u32 _ _ (same.scratch_u32 ∙ length-take-le _ _ r.u32_in);
     })
 
 pub get_pos_pixel_spec : {M : Type 1} → statement M

@@ -16,7 +16,7 @@ enum-known-rows : tie.Need-enum_known-rows
 enum-known-rows c = search rules
 
 add-declined : tie.Need-overflow_add-n
-add-declined c = omega (arith, rw c.rows-1.given.1 at c.requires.1)
+add-declined c = omega (arith, rw c.in-Refused-rows.is at c.requires.1)
 
 declined-requires-2 : tie.Need-declined-requires-in-Refused-rows
 declined-requires-2 c κs = search rules
@@ -27,18 +27,18 @@ enum-known-rows-2 c = search rules
 accepted-requires : tie.Need-accepted-requires
 accepted-requires c κs =
     let start = c in
-    let columns = rw c.columns-in-Read-1.given.1 at start.requires.0 in
-    let rows = rw c.rows-in-Read-1.given.1 at start.requires.1 in
+    let columns = rw c.in-Read.is at start.requires.0 in
+    let rows = rw c.in-Read-rows.is at start.requires.1 in
     (columns.0, columns.1, rows.0, rows.1)
 
 returns : tie.Need-returns-in-Refused
-returns c = rw c.columns-1.given.1 c.declined.ensures
+returns c = rw c.in-Refused.is c.declined.ensures
 
 returns-2 : tie.Need-returns-in-Refused-rows
-returns-2 c = rw (c.columns-in-Read-1.given.1, c.rows-1.given.1) c.declined-in-Refused-rows.ensures
+returns-2 c = rw (c.in-Read.is, c.in-Refused-rows.is) c.declined-in-Refused-rows.ensures
 
 returns-3 : tie.Need-returns-in-Read-rows
-returns-3 c = rw (c.columns-in-Read-1.given.1, c.rows-in-Read-1.given.1) c.accepted.ensures
+returns-3 c = rw (c.in-Read.is, c.in-Read-rows.is) c.accepted.ensures
 
 pub joined_spec : {M : Type 1} → statement M
 joined_spec =
