@@ -1,25 +1,23 @@
--- What the checks of a record, of planes and of a cell tell, and what each way out of a call leaves. Assumes nothing.
+-- What the checks of a cell tell, and what each way out of a call leaves. Assumes nothing.
 use Prim.Native.Nat.{ℕ, zero, suc, ◌*◌, ◌≤◌, ◌<◌}
 use mathlib.Core.Path.{◌≡◌, refl}
 use mathlib.Core.Bool.{Bool, true, false, not, cond, ◌&&◌, ◌||◌}
 use mathlib.Core.List.{List}
 use native.Mathlib.Nat.{not-suc-le-zero, mul-le-mul}
 use native.Mathlib.Omega.{arith}
-use borrow.Author.Tests.{ltb-true, ltb-false, le-ltb, eqb-true, eqb-false, ne_eqb}
-use lib.Dec.{eqb, ltb}
+use borrow.Author.Tests.{ltb-true, ltb-false, le-ltb, ne_eqb}
+use lib.Dec.{ltb}
 use lib.Ieee.{Float}
 use lib.ListN.{length}
 use Rattle.lists.specs.Front.{AtFront}
 use Rattle.lists.proofs.Front.{front_none}
 use Rattle.board.specs.declared.Board.{Board}
 use Rattle.board.specs.Board.{least_plane_side, most_size}
-use Rattle.board.specs.Planes.{planes_answer}
-use Rattle.board.specs.Inner.{FitPlanes}
 use Rattle.board.proofs.Sides.{both, neither, passed}
-use Rattle.board.proofs.Planes.{planes_fit}
-use Rattle.sample.specs.Inner.{RecordIn, AxisIn, CellGives}
-use Rattle.sample.specs.Sample.{most_number, row_at, column_at, pitch_outside, corner_above, record_answer, fit_answer, cell_above, on_board}
-use Rattle.sample.specs.Sample.{all_below, cell, cell_answer, sample_answer, SampleGives, most_cell_values}
+use Rattle.board.specs.Planes.{planes_answer}
+use Rattle.sample.specs.Inner.{AxisIn, CellGives}
+use Rattle.sample.specs.Sample.{most_number, row_at, column_at, pitch_outside, all_below, numbers_above, on_board, cell, cell_answer}
+use Rattle.sample.specs.Sample.{sample_answer, SampleGives, most_cell_values}
 
 -- two rules that agree below n
 pub all_below_same : (f g : ℕ → ℕ) (limit n : ℕ) → ((i : ℕ) → i < n → f i ≡ g i) → all_below f limit n ≡ all_below g limit n
@@ -37,66 +35,32 @@ below_at f limit (suc n) e i b =
     go true q h l = h (ltb-true i n q)
     go false q h l = let s : i ≡ n = omega (arith, ltb-false i n q) in rw s l
 
--- ---- what the checks tell
-
--- a call whose first checks answer 0, and then its later ones
-pub passed_both : (first later : ℕ) → cond (eqb first 0) later first ≡ 0 → (first ≡ 0) × (later ≡ 0)
-passed_both first later e = go (eqb first 0) refl e
-  where
-    go : (t : Bool) → eqb first 0 ≡ t → cond t later first ≡ 0 → (first ≡ 0) × (later ≡ 0)
-    go true q e = (eqb-true first 0 q, e)
-    go false q e = absurd (eqb-false first 0 q e)
-
-at_most : (n : ℕ) → ltb most_number n ≡ false → n ≤ most_number
-at_most = ltb-false most_number
-
-record_in : (b : Board) → record_answer b ≡ 0 → RecordIn b
-unfolding record_answer corner_above
-record_in b e =
-    let p = passed (pitch_outside b.pixelr || pitch_outside b.pixelc) 9 _ e in
-    let n = neither _ (ltb most_number b.c0) (passed (corner_above b) 10 0 p.1).0 in
-    let d = neither _ (ltb most_number b.r0) n.0 in
-    let c = neither (ltb most_number b.r_1) (ltb most_number b.c_1) d.0 in
-    record {
-      top_in = at_most b.r_1 c.0;
-      left_in = at_most b.c_1 c.1;
-      down_in = at_most b.r0 d.1;
-      across_in = at_most b.c0 n.1;
-    }
-
--- record and planes that are fit for sampling
-pub fit_shown : (b : Board) (planes : List Float) → fit_answer b planes ≡ 0
-    → RecordIn b × FitPlanes least_plane_side b.height b.width planes
-unfolding fit_answer
-fit_shown b planes e =
-    let p = passed_both (planes_answer least_plane_side b.height b.width planes false) (record_answer b) e in
-    (record_in b p.1, (planes_fit least_plane_side b.height b.width planes false p.0).0)
-
--- the numbers of a cell within their limits
-pub record NumbersIn (x y size : ℕ) : Type 0 where
-  pub row_in : x ≤ most_number
-  pub column_in : y ≤ most_number
-  pub size_in : size ≤ most_size
+-- numbers within the limits
+pub record NumbersIn (x y r₁ c₁ r₀ c₀ size : ℕ) : Type 0 where
+  pub down : AxisIn r₁ r₀ x size
+  pub across : AxisIn c₁ c₀ y size
   pub fits : 3 * (size * size) ≤ most_cell_values
 
-pub numbers_in : (x y size : ℕ) → cell_above x y size ≡ false → NumbersIn x y size
-unfolding cell_above
-numbers_in x y size e =
-    let s = neither _ (ltb most_size size) e in
-    let a = neither (ltb most_number x) (ltb most_number y) s.0 in
-    let n = ltb-false most_size size s.1 in
-    record { row_in = at_most x a.0; column_in = at_most y a.1; size_in = n; fits = omega (arith, mul-le-mul n n) }
-
--- both axes of a cell
-pub axis_down : {b : Board} {x y size : ℕ} → RecordIn b → NumbersIn x y size → AxisIn b.r_1 b.r0 x size
-axis_down r n = record { corner_in = r.top_in; offset_in = r.down_in; number_in = n.row_in; size_in = n.size_in }
-
-pub axis_across : {b : Board} {x y size : ℕ} → RecordIn b → NumbersIn x y size → AxisIn b.c_1 b.c0 y size
-axis_across r n = record { corner_in = r.left_in; offset_in = r.across_in; number_in = n.column_in; size_in = n.size_in }
+pub numbers_in : (x y r₁ c₁ r₀ c₀ size : ℕ) → numbers_above x y r₁ c₁ r₀ c₀ size ≡ false → NumbersIn x y r₁ c₁ r₀ c₀ size
+unfolding numbers_above
+numbers_in x y r₁ c₁ r₀ c₀ size e =
+    let f = neither _ (ltb most_size size) e in
+    let e = neither _ (ltb most_number c₀) f.0 in
+    let d = neither _ (ltb most_number r₀) e.0 in
+    let c = neither _ (ltb most_number c₁) d.0 in
+    let b = neither _ (ltb most_number r₁) c.0 in
+    let a = neither (ltb most_number x) (ltb most_number y) b.0 in
+    let s = ltb-false most_size size f.1 in
+    let at_most : (n : ℕ) → ltb most_number n ≡ false → n ≤ most_number = ltb-false most_number in
+    record {
+      down = record { corner_in = at_most r₁ b.1; offset_in = at_most r₀ d.1; number_in = at_most x a.0; size_in = s };
+      across = record { corner_in = at_most c₁ c.1; offset_in = at_most c₀ e.1; number_in = at_most y a.1; size_in = s };
+      fits = omega (arith, mul-le-mul s s);
+    }
 
 -- what the answer 0 tells
 pub record CellIn (b : Board) (x y size room : ℕ) : Type 0 where
-  pub numbers : NumbersIn x y size
+  pub numbers : NumbersIn x y b.r_1 b.c_1 b.r0 b.c0 size
   pub output : 3 * (size * size) ≤ room
   pub rows : (i : ℕ) → i < size → row_at b x size i < b.height
   pub columns : (j : ℕ) → j < size → column_at b y size j < b.width
@@ -108,24 +72,26 @@ all_in false e = absurd (omega arith)
 pub cell_in : (b : Board) (x y size room : ℕ) → cell_answer b x y size room ≡ 0 → CellIn b x y size room
 unfolding cell_answer
 cell_in b x y size room e =
-    let n = passed (cell_above x y size) 10 _ e in
+    let p = passed (pitch_outside b.pixelr || pitch_outside b.pixelc) 9 _ e in
+    let n = passed (numbers_above x y b.r_1 b.c_1 b.r0 b.c0 size) 10 _ p.1 in
     let c = passed (not (on_board b x y)) 13 _ n.1 in
     let o = passed (ltb room (3 * (size * size))) 2 _ c.1 in
     let rows = all_below (row_at b x size) b.height size in
     let columns = all_below (column_at b y size) b.width size in
     let a = both rows columns (all_in (rows && columns) o.1) in
     record {
-      numbers = numbers_in x y size n.0;
+      numbers = numbers_in x y b.r_1 b.c_1 b.r0 b.c0 size n.0;
       output = ltb-false room (3 * (size * size)) o.0;
       rows = below_at (row_at b x size) b.height size a.0;
       columns = below_at (column_at b y size) b.width size a.1;
     }
 
 -- where the numbers pass and the cell is on the board, the places decide
-pub decided : (b : Board) (x y size room : ℕ) → cell_above x y size ≡ false → on_board b x y ≡ true → 3 * (size * size) ≤ room
+pub decided : (b : Board) (x y size room : ℕ) → (pitch_outside b.pixelr || pitch_outside b.pixelc) ≡ false
+    → numbers_above x y b.r_1 b.c_1 b.r0 b.c0 size ≡ false → on_board b x y ≡ true → 3 * (size * size) ≤ room
     → cell_answer b x y size room ≡ cond (all_below (row_at b x size) b.height size && all_below (column_at b y size) b.width size) 0 12
 unfolding cell_answer
-decided b x y size room n c o = rw (n, c, le-ltb _ _ o)
+decided b x y size room p n c o = rw (p, n, c, le-ltb _ _ o)
 
 -- ---- the ways out
 
@@ -137,12 +103,13 @@ module _ (b : Board) (planes : List Float) (x y size : ℕ) (before : List Float
       → AtFront (cell b planes x y size) before after → CellGives b planes x y size before n after
   cell_copied n after e z h = record { answer_is = e; out_is = rw z h }
 
-  pub refused : (n : ℕ) → n ≡ fit_answer b planes → (n ≡ 0 → ⊥) → SampleGives b planes x y size before n before
+  pub refused : (n : ℕ) → n ≡ planes_answer least_plane_side b.height b.width planes false → (n ≡ 0 → ⊥)
+      → SampleGives b planes x y size before n before
   unfolding sample_answer
   refused n e z = record { answer_is = rw (← e, ne_eqb n 0 z); out_is = rw (ne_eqb n 0 z) front_none }
 
-  -- a record and planes that are fit leave the answer to the cell
-  pub handed_on : (n : ℕ) (after : List Float) → fit_answer b planes ≡ 0 → CellGives b planes x y size before n after
-      → SampleGives b planes x y size before n after
+  -- fit planes leave the answer to the cell
+  pub handed_on : (n : ℕ) (after : List Float) → planes_answer least_plane_side b.height b.width planes false ≡ 0
+      → CellGives b planes x y size before n after → SampleGives b planes x y size before n after
   unfolding sample_answer
   handed_on n after e g = record { answer_is = rw e g.answer_is; out_is = g.out_is }

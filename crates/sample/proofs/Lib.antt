@@ -1,3 +1,4 @@
 pub mod Answers
+pub mod Fit
 pub mod Cells
 pub mod Laws

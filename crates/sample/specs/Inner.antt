@@ -1,5 +1,5 @@
--- For the code alone: sampling where record and planes are fit, numbers that it may cast, and the values that it copies. No contract of an
--- entry point reaches these.
+-- For the code alone: sampling without the checks of the planes, numbers that it may cast, and the values that it copies. No contract of
+-- an entry point reaches these.
 use Rattle.std.specs.Prelude.{ℕ, ◌*◌, ◌+◌, ◌≤◌, ◌≡◌, cond, List, [], eqb, Float, length, get_or}
 use Rattle.std.specs.Float.{nan}
 use Rattle.lists.specs.Front.{AtFront}
@@ -7,7 +7,7 @@ use Rattle.board.specs.declared.Board.{Board}
 use Rattle.board.specs.Board.{most_size}
 use Rattle.sample.specs.Sample.{most_number, cell_answer, cell}
 
--- what a call answers and leaves where record and planes are fit
+-- the same without the checks of the planes
 pub record CellGives (b : Board) (planes : List Float) (x y size : ℕ) (before : List Float) (answer : ℕ) (after : List Float)
     : Type 0 where
   pub answer_is : answer ≡ cell_answer b x y size (length before)

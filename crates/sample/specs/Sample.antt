@@ -36,53 +36,40 @@ cell b planes x y size =
 unfoldable pub pitch_outside : Float → Bool
 pitch_outside p = not (le (of_bits binary32 0x41000000) p && le p (of_bits binary32 0x43480000))
 
--- 4,096: the most that a record's corner and offset and a cell's numbers may be
-abbrev pub most_number : ℕ
-most_number = 4096
-
--- the corner or the offset of a record is above that
-unfoldable pub corner_above : Board → Bool
-corner_above b = ltb most_number b.r_1 || ltb most_number b.c_1 || ltb most_number b.r0 || ltb most_number b.c0
-
--- the answer to a record by itself: 10 a pitch, 11 its corner or its offset; 0 otherwise
-unfoldable pub record_answer : Board → ℕ
-unfolding pitch_outside corner_above
-record_answer b = cond (pitch_outside b.pixelr || pitch_outside b.pixelc) 10 (cond (corner_above b) 11 0)
-
--- whether record and planes are fit for sampling, whatever is asked of them: 1, 3 and 4 the planes, 10 and 11 the record; 0 if they are
-unfoldable pub fit_answer : Board → List Float → ℕ
-unfolding planes_answer record_answer
-fit_answer b planes =
-    let a = planes_answer least_plane_side b.height b.width planes false in
-    cond (eqb a 0) (record_answer b) a
-
--- x or y is above 4,096, or the size above its limit
-unfoldable pub cell_above : ℕ → ℕ → ℕ → Bool
-cell_above x y size = ltb most_number x || ltb most_number y || ltb most_size size
-
--- 02, R-5: a cell is on the board if x < r and y < c
-unfoldable pub on_board : Board → ℕ → ℕ → Bool
-on_board b x y = ltb x b.r && ltb y b.c
-
 -- f 0 to f (n - 1) are below the limit
 abbrev pub all_below : (ℕ → ℕ) → ℕ → ℕ → Bool
 all_below f limit zero = true
 all_below f limit (suc n) = all_below f limit n && ltb (f n) limit
 
--- the answer to a cell of a record and planes that are fit, for `room` entries of output
+-- 4,096: the most that a cell's numbers and a record's corner and offset may be
+abbrev pub most_number : ℕ
+most_number = 4096
+
+-- x, y, the corner or the offset is above that, or the size above its limit
+unfoldable pub numbers_above : ℕ → ℕ → ℕ → ℕ → ℕ → ℕ → ℕ → Bool
+numbers_above x y r₁ c₁ r₀ c₀ size =
+    ltb most_number x || ltb most_number y || ltb most_number r₁ || ltb most_number c₁ || ltb most_number r₀ || ltb most_number c₀
+    || ltb most_size size
+
+-- 02, R-5: a cell is on the board if x < r and y < c
+unfoldable pub on_board : Board → ℕ → ℕ → Bool
+on_board b x y = ltb x b.r && ltb y b.c
+
+-- the answer where the checks of the planes passed, for `room` entries of output
 unfoldable pub cell_answer : Board → ℕ → ℕ → ℕ → ℕ → ℕ
-unfolding cell_above on_board sampled_at
+unfolding pitch_outside numbers_above on_board sampled_at
 cell_answer b x y size room =
-    cond (cell_above x y size) 11
+    cond (pitch_outside b.pixelr || pitch_outside b.pixelc) 10
+    (cond (numbers_above x y b.r_1 b.c_1 b.r0 b.c0 size) 11
     (cond (not (on_board b x y)) 14
     (cond (ltb room (3 * (size * size))) 3
-    (cond (all_below (row_at b x size) b.height size && all_below (column_at b y size) b.width size) 0 12)))
+    (cond (all_below (row_at b x size) b.height size && all_below (column_at b y size) b.width size) 0 12))))
 
--- the answer of a call, on any record and planes
+-- the answer of a call, on any planes
 unfoldable pub sample_answer : Board → List Float → ℕ → ℕ → ℕ → ℕ → ℕ
-unfolding fit_answer cell_answer
+unfolding planes_answer cell_answer
 sample_answer b planes x y size room =
-    let a = fit_answer b planes in
+    let a = planes_answer least_plane_side b.height b.width planes false in
     cond (eqb a 0) (cell_answer b x y size room) a
 
 -- what a call answers, and what the output holds after it: the cell at its front; on a refusal nothing is written

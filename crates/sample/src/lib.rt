@@ -1,5 +1,6 @@
 // Sampling a cell of the board (01, "Cell sampling", and 02, R-2 and R-5). A call refuses with 1, 3, 4, 10, 11, 14, 3 and 12, in that
-// order, before it writes. Definitions: specs/Sample; specs/Inner is for the inner functions. Laws for callers: proofs/Laws (the room that
+// order, before it writes. Definitions: specs/Sample, and specs/Fit (the checks that calls over a whole
+// board start with); specs/Inner is for the inner functions. Laws for callers: proofs/Laws (the room that
 // a cell takes).
 #![tactic(auto)]
 
@@ -9,12 +10,13 @@ ghost use Rattle.lists.specs.Inner.{Placed};
 ghost use Rattle.lists.specs.Tab.{tab, grid};
 ghost use Rattle.board.specs.Board.{most_size};
 ghost use Rattle.sample.specs.Sample as Spec;
-ghost use Rattle.sample.specs.Sample.{sampled_at, cell, all_below, fit_answer, cell_answer, SampleGives};
-ghost use Rattle.sample.specs.Inner.{CellGives, RecordIn, AxisIn, row_value, plane_value};
+ghost use Rattle.sample.specs.Sample.{sampled_at, cell, all_below, cell_answer, SampleGives};
+ghost use Rattle.sample.specs.Fit.{corner_above, record_answer, fit_answer};
+ghost use Rattle.sample.specs.Inner.{CellGives, AxisIn, row_value, plane_value};
 
 use board::Board;
 
-// The most that a record's corner and offset and a cell's numbers may be.
+// The most that a cell's numbers and a record's corner and offset may be.
 const MOST_NUMBER: usize = 4096;
 
 fn pitch_outside(p: f32) -> bool
@@ -23,14 +25,34 @@ fn pitch_outside(p: f32) -> bool
     !((p >= 8.0) & (p <= 200.0))
 }
 
+fn numbers_above(
+    x: usize,
+    y: usize,
+    r_1: usize,
+    c_1: usize,
+    r0: usize,
+    c0: usize,
+    size: usize,
+) -> bool
+    ensures { result ≡ Spec.numbers_above x y r_1 c_1 r0 c0 size }
+{
+    (MOST_NUMBER < x)
+        | (MOST_NUMBER < y)
+        | (MOST_NUMBER < r_1)
+        | (MOST_NUMBER < c_1)
+        | (MOST_NUMBER < r0)
+        | (MOST_NUMBER < c0)
+        | (Board::MOST_SIZE < size)
+}
+
 fn corner_above(b: Board) -> bool
-    ensures { result ≡ Spec.corner_above b }
+    ensures { result ≡ corner_above b }
 {
     (MOST_NUMBER < b.r_1) | (MOST_NUMBER < b.c_1) | (MOST_NUMBER < b.r0) | (MOST_NUMBER < b.c0)
 }
 
 fn record_answer(b: Board) -> u32
-    ensures { result ≡ Spec.record_answer b }
+    ensures { result ≡ record_answer b }
 {
     if pitch_outside(b.pixelr) | pitch_outside(b.pixelc) {
         return 10;
@@ -50,12 +72,6 @@ pub fn fit_answer(b: Board, planes: &[f32]) -> u32
         return refusal;
     }
     record_answer(b)
-}
-
-fn cell_above(x: usize, y: usize, size: usize) -> bool
-    ensures { result ≡ Spec.cell_above x y size }
-{
-    (MOST_NUMBER < x) | (MOST_NUMBER < y) | (Board::MOST_SIZE < size)
 }
 
 // Of the record only the counts are looked at: a caller may have set them and no far corner.
@@ -125,12 +141,14 @@ fn inside(corner: usize, offset: usize, pitch: f32, x: usize, size: usize, side:
     all_below(&at, size, side)
 }
 
-// The answer where record and planes are fit: all that can refuse is decided here, from numbers alone.
+// The answer where the planes are fit: all that can refuse is decided here, from numbers alone.
 fn cell_answer(b: Board, x: usize, y: usize, size: usize, room: usize) -> u32
-    requires { RecordIn b }
     ensures { result ≡ cell_answer b x y size room }
 {
-    if cell_above(x, y, size) {
+    if pitch_outside(b.pixelr) | pitch_outside(b.pixelc) {
+        return 10;
+    }
+    if numbers_above(x, y, b.r_1, b.c_1, b.r0, b.c0, size) {
         return 11;
     }
     if !on_board(b, x, y) {
@@ -196,7 +214,7 @@ fn copy_plane(
 
 // The three planes of a cell whose places are in the picture.
 fn copy_cell(b: Board, planes: &[f32], x: usize, y: usize, size: usize, out: &mut [f32])
-    requires record_in { RecordIn b × (3 * (b.height * b.width) ≤ length planes.now) }
+    requires width_in_bounds { 3 * (b.height * b.width) ≤ length planes.now }
     requires out_value { cell_answer b x y size (length out.old) ≡ 0 }
     ensures { AtFront (cell b planes.now x y size) out.old out.new }
 {
@@ -216,9 +234,9 @@ fn copy_cell(b: Board, planes: &[f32], x: usize, y: usize, size: usize, out: &mu
     }
 }
 
-// A cell of a record and planes that are known to be fit.
+// A cell, without the check of plane values: a call over many cells could make it once.
 pub fn cell_of(b: Board, planes: &[f32], x: usize, y: usize, size: usize, out: &mut [f32]) -> u32
-    requires { RecordIn b × (3 * (b.height * b.width) ≤ length planes.now) }
+    requires { 3 * (b.height * b.width) ≤ length planes.now }
     ensures { CellGives b planes.now x y size out.old result out.new }
 {
     let answer = cell_answer(b, x, y, size, out.len());
@@ -239,7 +257,7 @@ pub fn extra_save_cell(
 ) -> u32
     ensures { SampleGives b planes.now x y size out.old result out.new }
 {
-    let refusal = fit_answer(b, planes);
+    let refusal = board::planes_answer(Board::LEAST_PLANE_SIDE, b.height, b.width, planes, false);
     if refusal != 0 {
         return refusal;
     }

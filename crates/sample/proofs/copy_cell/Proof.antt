@@ -8,7 +8,7 @@ use Rattle.lists.specs.Front.{AtFront}
 use Rattle.lists.specs.Tab.{grid}
 use Rattle.lists.proofs.Front.{front_none, front_row}
 use Rattle.lists.proofs.Grid.{row_fits}
-use Rattle.sample.proofs.Answers.{CellIn, axis_down, axis_across, cell_in}
+use Rattle.sample.proofs.Answers.{CellIn, cell_in}
 use Rattle.sample.proofs.Cells.{cell_plane, PlacesAre, place_in, plane_is}
 use borrow.Author.Rules.{rules}
 use Rattle.sample.proofs.copy_cell.Statement.{statement}
@@ -37,10 +37,10 @@ room c =
     omega (arith, row_fits _ _ (n * n) c.loop-k-test.true, (placed c.before.before).fit.output)
 
 places-requires : tie.Need-places-rows-requires invariant-loop decreases-loop
-places-requires c κs = axis_down c.requires.0.0 (fits c).numbers
+places-requires c κs = (fits c).numbers.down
 
 places-requires-2 : tie.Need-places-columns-requires invariant-loop decreases-loop
-places-requires-2 c κs = axis_across c.requires.0.0 (fits c.before).numbers
+places-requires-2 c κs = (fits c.before).numbers.across
 
 loop-holds : tie.Need-loop-k-init invariant-loop decreases-loop
 loop-holds c = (omega arith, rw zero-mul front_none)
@@ -64,8 +64,8 @@ copy-plane-requires c κs =
     let turn = c in
     let s = c in
     let here = placed c.before.before.before.before.before.before in (
-      (here.fit.numbers.size_in, omega (arith, room c.before.before.before.before)),
-      λ i j i-in j-in. place_in s.args.planes.now here turn.loop-k.k i j s.requires.0.1 (omega arith) i-in j-in,
+      (here.fit.numbers.down.size_in, omega (arith, room c.before.before.before.before)),
+      λ i j i-in j-in. place_in s.args.planes.now here turn.loop-k.k i j s.requires.0 (omega arith) i-in j-in,
     )
 
 add-k : tie.Need-overflow_step-k invariant-loop decreases-loop

@@ -1,6 +1,6 @@
 -- `sample::corner_above` meets its contract: the code is the rule.
 use mathlib.Core.Path.{refl}
-use Rattle.sample.specs.Sample.{corner_above}
+use Rattle.sample.specs.Fit.{corner_above}
 use Rattle.sample.proofs.corner_above.Statement.{statement}
 use Rattle.sample.proofs.corner_above.Tie as tie
 

@@ -1,7 +1,7 @@
 -- `sample::fit_answer` meets its contract: planes that are not fit are refused by their own answer, and the record answers for the others.
 use mathlib.Core.Path.{sym, ◌∙◌}
 use borrow.Author.Tests.{ne_eqb}
-use Rattle.sample.specs.Sample.{fit_answer}
+use Rattle.sample.specs.Fit.{fit_answer}
 use borrow.Author.Rules.{rules}
 use Rattle.sample.proofs.fit_answer.Statement.{statement}
 use Rattle.sample.proofs.fit_answer.Tie as tie

@@ -1,7 +1,8 @@
 -- `sample::record_answer` meets its contract: each test is the rule's, in its order.
 use mathlib.Core.Path.{◌≡◌, sym, ◌∙◌}
 use mathlib.Core.Bool.{false, ◌||◌}
-use Rattle.sample.specs.Sample.{pitch_outside, record_answer}
+use Rattle.sample.specs.Sample.{pitch_outside}
+use Rattle.sample.specs.Fit.{record_answer}
 use Rattle.sample.proofs.record_answer.Statement.{statement}
 use Rattle.sample.proofs.record_answer.Tie as tie
 
