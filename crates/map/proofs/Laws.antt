@@ -12,12 +12,16 @@ use lib.ListN.{length, get_or}
 use Rattle.lists.proofs.Front.{front_within}
 use Rattle.text.proofs.Decimal.{digits_below}
 use Rattle.board.specs.declared.Board.{Board}
+use Rattle.board.specs.Board.{least_plane_side}
+use Rattle.board.specs.Planes.{planes_answer}
 use Rattle.board.specs.Screen.{view}
 use Rattle.board.proofs.Packed.{length_packed, view_packed}
 use Rattle.load.specs.declared.Loaded.{Loaded}
 use Rattle.load.specs.Load.{most_byte, shown}
-use Rattle.sample.specs.Sample.{row_at, column_at, cell, cell_above, on_board, fit_answer, cell_answer, sample_answer}
-use Rattle.sample.proofs.Answers.{passed_both, decided, cell_in}
+use Rattle.sample.specs.Sample.{row_at, column_at, cell, on_board, cell_answer, sample_answer}
+use Rattle.sample.specs.Fit.{fit_answer}
+use Rattle.sample.proofs.Answers.{cell_in}
+use Rattle.sample.proofs.Fit.{passed_both, fit_sampled}
 use Rattle.map.specs.Map.{line_width, most_rows, green_level, mark_of, mark_at, cell_mark, map_text, print_answer, map_answer}
 use Rattle.map.specs.Map.{MarksAre, LevelFits, LevelIsByte, MarkIsSample, most_map_bytes, MapFits}
 use Rattle.map.proofs.Level.{level_most, byte_level}
@@ -75,18 +79,17 @@ module _ (b : Board) (planes : List Float) where
   in_picture x y = ltb (row_at b x 1 0) b.height && ltb (column_at b y 1 0) b.width
 
   sampled_as : (room x y : ℕ) → Prints b planes room → x < b.r → y < b.c → sample_answer b planes x y 1 3 ≡ cond (in_picture x y) 0 12
-  unfolding sample_answer cell_above on_board
+  unfolding on_board
   sampled_as room x y p x-in y-in =
-      let numbers : cell_above x y 1 ≡ false =
-      rw (le-ltb 4096 x (omega (arith, p.printable.rows_in)), le-ltb 4096 y (omega (arith, p.printable.columns_in))) in
       let on : on_board b x y ≡ true = rw (lt-ltb x b.r x-in, lt-ltb y b.c y-in) in
-      rw p.fit (decided b x y 1 3 numbers on (omega arith))
+      fit_sampled b planes x y 1 3 p.fit (omega (arith, p.printable.rows_in)) (omega (arith, p.printable.columns_in)) (omega arith) on
+      (omega arith)
 
   mark_sampled : (x y : ℕ) → sample_answer b planes x y 1 3 ≡ 0
       → cell_mark b planes x y ≡ mark_of (green_level (get_or (cell b planes x y 1) 1 nan))
   unfolding sample_answer mark_at
   mark_sampled x y e =
-      let c = cell_in b x y 1 3 (passed_both (fit_answer b planes) (cell_answer b x y 1 3) e).1 in
+      let c = cell_in b x y 1 3 (passed_both (planes_answer least_plane_side b.height b.width planes false) (cell_answer b x y 1 3) e).1 in
       rw (lt-ltb _ _ (c.rows 0 (omega arith)), lt-ltb _ _ (c.columns 0 (omega arith)))
 
 pub mark_is_sample : (b : Board) (planes : List Float) (room x y : ℕ) → MarkIsSample b planes room x y

@@ -10,7 +10,8 @@ use Rattle.board.specs.declared.Board.{Board}
 use Rattle.board.specs.Screen.{view}
 use Rattle.load.specs.declared.Loaded.{Loaded}
 use Rattle.load.specs.Load.{most_byte, LoadGives}
-use Rattle.sample.specs.Sample.{row_at, column_at, cell, fit_answer, sample_answer}
+use Rattle.sample.specs.Sample.{row_at, column_at, cell, sample_answer}
+use Rattle.sample.specs.Fit.{fit_answer}
 use Rattle.map.specs.declared.Printed.{Printed}
 
 -- 80: the characters of a board row, and the most board columns

@@ -9,13 +9,13 @@ use Rattle.map.proofs.green_level.Tie as tie
 trunc-requires : tie.Need-trunc-requires
 trunc-requires c κs = search rules
 
-cast-result : tie.Need-overflow-cast-result
+cast-result : tie.Need-overflow_cast-result
 unfolding green_level
-cast-result c = record { fits = rw c.trunc.ensures (level_most _ (T_of c.before.well-formed.0.1) c.before.requires) }
+cast-result c = record { fits = rw c.trunc.ensures (level_most _ (T_of c.well_formed.0.1) c.requires) }
 
 returns : tie.Need-returns
 unfolding green_level
 returns c = c.trunc.ensures
 
-pub green-level-spec : {M : Type 1} → statement M
-green-level-spec = tie.close (tie.spec trunc-requires cast-result returns)
+pub green_level_spec : {M : Type 1} → statement M
+green_level_spec = tie.close (tie.spec trunc-requires cast-result returns)

@@ -7,19 +7,19 @@ use borrow.Author.Rules.{rules}
 use Rattle.map.proofs.map_answer.Statement.{statement}
 use Rattle.map.proofs.map_answer.Tie as tie
 
-fit-answer-requires : tie.Need-fit-answer-requires
+fit-answer-requires : tie.Need-fit_answer-refusal-requires
 fit-answer-requires c κs = search rules
 
-returns : tie.Need-returns
+returns : tie.Need-returns-then-refusal-ne0
 unfolding map_answer
-returns c = rw (sym c.before.fit_answer_lem.ensures, ne_eqb _ 0 c.if1.true)
+returns c = rw (sym c.fit_answer-refusal.ensures, ne_eqb _ 0 c.if-refusal-ne0.true)
 
-print-answer-requires : tie.Need-print-answer-requires
+print-answer-requires : tie.Need-print_answer-requires
 print-answer-requires c κs = search rules
 
-returns-2 : tie.Need-returns-2
+returns-2 : tie.Need-returns
 unfolding map_answer
-returns-2 c = rw (sym c.before.before.fit_answer_lem.ensures ∙ c.before.if1.false) (c.print-answer.ensures _)
+returns-2 c = rw (sym c.fit_answer-refusal.ensures ∙ c.if-refusal-ne0.false) (c.print_answer.ensures _)
 
-pub map-answer-spec : {M : Type 1} → statement M
-map-answer-spec = tie.close (tie.spec fit-answer-requires returns print-answer-requires returns-2)
+pub map_answer_spec : {M : Type 1} → statement M
+map_answer_spec = tie.close (tie.spec fit-answer-requires returns print-answer-requires returns-2)

@@ -12,65 +12,62 @@ use Rattle.map.proofs.mark_at.Statement.{statement}
 use Rattle.map.proofs.mark_at.Tie as tie
 
 -- a place of the picture, and its value among the planes
-abbrev at-start : tie.Else2 → tie.Start
-at-start c = c.before.before.before.before.before
+abbrev place_of : tie.Else-b-j → ℕ
+place_of c = let a = c.args in a.b.height * a.b.width + (a.i * a.b.width + a.j)
 
-abbrev place_of : tie.Else2 → ℕ
-place_of c = let a = (at-start c).args in a.b.height * a.b.width + (a.i * a.b.width + a.j)
+place : (c : tie.Else-b-j) → let a = c.args in a.i * a.b.width + a.j < a.b.height * a.b.width
+place c = digits_lt c.if-b-i.false c.if-b-j.false
 
-place : (c : tie.Else2) → let a = (at-start c).args in a.i * a.b.width + a.j < a.b.height * a.b.width
-place c = digits_lt c.before.before.if1.false c.if2.false
-
-in-planes : (c : tie.Else2) → let b = (at-start c).args.b in place_of c < 3 * (b.height * b.width)
+in-planes : (c : tie.Else-b-j) → let b = c.args.b in place_of c < 3 * (b.height * b.width)
 in-planes c = omega (arith, place c)
 
-returns : tie.Need-returns
+returns : tie.Need-returns-then-b-i
 unfolding mark_at
-returns c = rw (le-ltb _ _ c.if1.true)
+returns c = rw (le-ltb _ _ c.if-b-i.true)
 
-returns-2 : tie.Need-returns-2
+returns-2 : tie.Need-returns-then-b-j
 unfolding mark_at
-returns-2 c = rw (lt-ltb _ _ c.before.before.if1.false, le-ltb _ _ c.if2.true)
+returns-2 c = rw (lt-ltb _ _ c.if-b-i.false, le-ltb _ _ c.if-b-j.true)
 
-mul-green-level : tie.Need-overflow-mul-green-level
+mul-green-level : tie.Need-overflow_mul-b
 mul-green-level c = search rules
 
-mul-green-level-2 : tie.Need-overflow-mul-green-level-2
-mul-green-level-2 c = omega (arith, place c.before.before, (at-start c.before.before).requires.there)
+mul-green-level-2 : tie.Need-overflow_mul-i
+mul-green-level-2 c = omega (arith, place c.before.before, c.requires.there)
 
-add-green-level : tie.Need-overflow-add-green-level
-add-green-level c = omega (arith, place c.before.before, (at-start c.before.before).requires.there)
+add-green-level : tie.Need-overflow_add-i
+add-green-level c = omega (arith, place c.before.before, c.requires.there)
 
-add-green-level-2 : tie.Need-overflow-add-green-level-2
-add-green-level-2 c = omega (arith, in-planes c.before.before, (at-start c.before.before).requires.there)
+add-green-level-2 : tie.Need-overflow_add-b
+add-green-level-2 c = omega (arith, in-planes c.before.before, c.requires.there)
 
-mul-green-level-3 : tie.Need-overflow-mul-green-level-3
-mul-green-level-3 c = omega (arith, in-planes c.before.before, (at-start c.before.before).requires.there)
+mul-green-level-3 : tie.Need-offset_bounds-planes-b
+mul-green-level-3 c = omega (arith, in-planes c.before.before, c.requires.there)
 
-shared-slice-read-green-level : tie.Need-shared-slice-read-green-level
+shared-slice-read-green-level : tie.Need-bounds-planes-b
 shared-slice-read-green-level c =
-    let at = c.before.before.before in
-    omega (arith, in-planes at, (at-start at).requires.there)
+    let at = c in
+    omega (arith, in-planes c.before.before.before, at.requires.there)
 
-green-level-requires : tie.Need-green-level-requires
+green-level-requires : tie.Need-green_level-requires
 green-level-requires c κs =
-    let at = c.before.before.before in
-    let fit = (at-start at).requires in
-    unit_below _ _ (place_of at) fit.there fit.units (in-planes at)
+    let at = c in
+    let fit = at.requires in
+    unit_below _ _ (place_of c.before.before.before) fit.there fit.units (in-planes c.before.before.before)
 
-mark-of-requires : tie.Need-mark-of-requires
+mark-of-requires : tie.Need-mark_of-requires
 mark-of-requires c κs = search rules
 
-returns-3 : tie.Need-returns-3
+returns-3 : tie.Need-returns
 unfolding mark_at
 returns-3 c =
-    let at = c.before.before.before.before.before in
-    let b = (at-start at).args.b in
-    rw (lt-ltb _ _ at.before.before.if1.false, lt-ltb _ _ at.if2.false, one-mul (b.height * b.width))
-    (c.mark_of.ensures ∙ ap mark_of c.before.green-level.ensures)
+    let at = c in
+    let b = at.args.b in
+    rw (lt-ltb _ _ at.if-b-i.false, lt-ltb _ _ at.if-b-j.false, one-mul (b.height * b.width))
+    (c.mark_of.ensures ∙ ap mark_of c.green_level.ensures)
 
-pub mark-at-spec : {M : Type 1} → statement M
-mark-at-spec =
+pub mark_at_spec : {M : Type 1} → statement M
+mark_at_spec =
     tie.close
     (tie.spec
     returns

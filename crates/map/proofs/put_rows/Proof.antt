@@ -10,27 +10,24 @@ use borrow.Author.Rules.{rules}
 use Rattle.map.proofs.put_rows.Statement.{statement}
 use Rattle.map.proofs.put_rows.Tie as tie
 
-abbrev invariant-loop : tie.invariant-loop
+abbrev invariant-loop : tie.invariant-loop-x
 invariant-loop b planes out₀ at columns next₀ x₀ x-end out next x =
     (x ≤ b.r)
     × (x-end ≡ b.r)
     × Partly (in_turn (tab b.r (row_line b planes))) (in_turn (tab_from x (b.r - x) (row_line b planes))) at out₀ next out
 
-abbrev decreases-loop : tie.decreases-loop
+abbrev decreases-loop : tie.decreases-loop-x
 decreases-loop b planes out₀ at columns next₀ x₀ x-end out next x = b.r - x
 
 -- the start
-abbrev begun : tie.At-loop invariant-loop decreases-loop → tie.Start invariant-loop decreases-loop
-begun c = c.before.before.before.before
-
-columns-of-requires : tie.Need-columns-of-requires invariant-loop decreases-loop
+columns-of-requires : tie.Need-columns_of-columns-requires invariant-loop decreases-loop
 columns-of-requires c κs =
-    let fit = c.before.before.requires.0 in
+    let fit = c.requires.0 in
     (fit.record_in, fit.columns_in)
 
-loop-holds : tie.Need-loop-init invariant-loop decreases-loop
+loop-holds : tie.Need-loop-x-init invariant-loop decreases-loop
 loop-holds c =
-    let start = c.before.before.before in
+    let start = c in
     let a = start.args in
     let z : a.b.r - 0 ≡ a.b.r = omega arith in (
       omega arith,
@@ -38,45 +35,45 @@ loop-holds c =
       rw z (partly_none (omega (arith, all_rows_length a.b a.planes.now start.requires.0.columns_in, start.requires.1))),
     )
 
-put-row-requires : tie.Need-put-row-requires invariant-loop decreases-loop
+put-row-requires : tie.Need-put_row-next-requires invariant-loop decreases-loop
 put-row-requires c κs =
-    let at = c.before.before.before in
-    let start = begun at in
+    let at = c in
+    let start = c in
     let b = start.args.b in
     let planes = start.args.planes.now in
-    let x = at.loop.x in
-    let p = rw (rows_next b planes x (omega arith)) at at.loop.invariant.2 in
+    let x = at.loop-x.x in
+    let p = rw (rows_next b planes x (omega arith)) at at.loop-x.invariant.2 in
     let room = partly_room (row_line b planes x) _ p in (
-      (start.pre.0, omega arith, omega (arith, room, row_length b planes x start.pre.0.columns_in)),
-      at.before.columns_of.ensures,
+      (start.requires.0, omega arith, omega (arith, room, row_length b planes x start.requires.0.columns_in)),
+      at.columns_of-columns.ensures,
     )
 
-add-x : tie.Need-overflow-add-x invariant-loop decreases-loop
+add-x : tie.Need-overflow_step-x invariant-loop decreases-loop
 add-x c = search rules
 
-loop-less : tie.Need-loop-smaller invariant-loop decreases-loop
+loop-less : tie.Need-loop-x-smaller invariant-loop decreases-loop
 loop-less c = search rules
 
-loop-again : tie.Need-loop-preserved invariant-loop decreases-loop
+loop-again : tie.Need-loop-x-preserved invariant-loop decreases-loop
 loop-again c =
-    let put = c.before.before in
-    let at = put.before.before.before.before in
-    let a = (begun at).args in
-    let x = at.loop.x in
-    let p = rw (rows_next a.b a.planes.now x (omega arith)) at at.loop.invariant.2 in
-    (omega arith, at.loop.invariant.1, partly_more (row_line a.b a.planes.now x) p put.put-row.ensures)
+    let put = c in
+    let at = c in
+    let a = at.args in
+    let x = at.loop-x.x in
+    let p = rw (rows_next a.b a.planes.now x (omega arith)) at at.loop-x.invariant.2 in
+    (omega arith, at.loop-x.invariant.1, partly_more (row_line a.b a.planes.now x) p put.put_row-next.ensures)
 
-same_length : tie.Need-same-length invariant-loop decreases-loop
-same_length c = c.before.loop.invariant.2.puts.placed.len
+same_length : tie.Need-shape_of-out invariant-loop decreases-loop
+same_length c = c.loop-x.invariant.2.puts.placed.len
 
 returns : tie.Need-returns invariant-loop decreases-loop
 returns c =
-    let at = c.before in
-    let a = (begun at).args in
-    partly_all (rw (rows_none a.b a.planes.now at.loop.x (omega arith)) at at.loop.invariant.2)
+    let at = c in
+    let a = at.args in
+    partly_all (rw (rows_none a.b a.planes.now at.loop-x.x (omega arith)) at at.loop-x.invariant.2)
 
-pub put-rows-spec : {M : Type 1} → statement M
-put-rows-spec =
+pub put_rows_spec : {M : Type 1} → statement M
+put_rows_spec =
     tie.close
     (tie.spec
     invariant-loop

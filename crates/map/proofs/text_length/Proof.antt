@@ -10,45 +10,45 @@ use Rattle.map.proofs.text_length.Tie as tie
 digits-requires : tie.Need-digits-requires
 digits-requires c κs = search rules
 
-add-result : tie.Need-overflow-add-result
-add-result c = omega (arith, decimal_most c.before.args.r)
+add-result : tie.Need-overflow_add-result
+add-result c = omega (arith, decimal_most c.args.r)
 
 digits-requires-2 : tie.Need-digits-requires-2
 digits-requires-2 c κs = search rules
 
-add-result-2 : tie.Need-overflow-add-result-2
+add-result-2 : tie.Need-overflow_add-result-2
 add-result-2 c =
-    let a = c.before.before.args in
+    let a = c.args in
     omega (arith, decimal_most a.r, decimal_most a.c)
 
-add-result-3 : tie.Need-overflow-add-result-3
+add-result-3 : tie.Need-overflow_add-result-3
 add-result-3 c =
-    let a = c.before.before.args in
+    let a = c.args in
     omega (arith, decimal_most a.r, decimal_most a.c)
 
-add-result-4 : tie.Need-overflow-add-result-4
+add-result-4 : tie.Need-overflow_add-result-4
 add-result-4 c =
-    let a = c.before.before.args in
+    let a = c.args in
     omega (arith, decimal_most a.r, decimal_most a.c)
 
-add-result-5 : tie.Need-overflow-add-result-5
+add-result-5 : tie.Need-overflow_add-result-5
 add-result-5 c = search rules
 
-mul-result : tie.Need-overflow-mul-result
+mul-result : tie.Need-overflow_mul-result
 mul-result c = search rules
 
-add-result-6 : tie.Need-overflow-add-result-6
+add-result-6 : tie.Need-overflow_add-result-6
 add-result-6 c =
-    let a = c.before.before.args in
+    let a = c.args in
     omega (arith, decimal_most a.r, decimal_most a.c)
 
 returns : tie.Need-returns
 returns c =
-    let a = c.before.before.args in
+    let a = c.args in
     omega (arith, counts_length a.r a.c)
 
-pub text-length-spec : {M : Type 1} → statement M
-text-length-spec =
+pub text_length_spec : {M : Type 1} → statement M
+text_length_spec =
     tie.close
     (tie.spec
     digits-requires
