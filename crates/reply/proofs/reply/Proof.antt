@@ -11,34 +11,34 @@ use borrow.Author.Rules.{rules}
 use Rattle.reply.proofs.reply.Statement.{statement}
 use Rattle.reply.proofs.reply.Tie as tie
 
-slice-aggregate-answer-to : tie.Need-slice-aggregate-answer-to
-slice-aggregate-answer-to c = sym (length-take-le _ c.before.before.before.args.bytes.now (omega arith))
+slice-aggregate-answer-to : tie.Need-slice_bounds-answer_to-end
+slice-aggregate-answer-to c = sym (length-take-le _ c.args.bytes.now (omega arith))
 
-answer-to-requires : tie.Need-answer-to-requires
+answer-to-requires : tie.Need-answer_to-values-requires
 answer-to-requires c κs = search rules
 
-slice-aggregate-write-lines : tie.Need-slice-aggregate-write-lines
+slice-aggregate-write-lines : tie.Need-slice_bounds-write_lines-end
 slice-aggregate-write-lines c = search rules
 
-write-lines-requires : tie.Need-write-lines-requires
+write-lines-requires : tie.Need-write_lines-requires
 write-lines-requires c κs =
-    let fit = lines_fit c.before.before.answer-to.result (sym (slice-aggregate-write-lines c.before)) in
-    omega (arith, c.before.before.before.before.before.before.requires.2, fit)
+    let fit = lines_fit c.answer_to-values.result (sym (slice-aggregate-write-lines c.before)) in
+    omega (arith, c.requires.2, fit)
 
-same_length : tie.Need-same-length
+same_length : tie.Need-shape_of-out
 same_length c = search rules
 
 returns : tie.Need-returns
 returns c =
-    let written = c.before.before in
-    let values = written.before.before.before in
-    let lines = written.write-lines.ensures in (
-      λ input e. rw (values.answer-to.ensures ∙ sym (ap answer_to e) ∙ enough input) at lines,
+    let written = c in
+    let values = c in
+    let lines = written.write_lines.ensures in (
+      λ input e. rw (values.answer_to-values.ensures ∙ sym (ap answer_to e) ∙ enough input) at lines,
       omega (arith, lines.0, front_fits lines.1),
     )
 
-pub reply-spec : {M : Type 1} → statement M
-reply-spec =
+pub reply_spec : {M : Type 1} → statement M
+reply_spec =
     tie.close
     (tie.spec
     slice-aggregate-answer-to
