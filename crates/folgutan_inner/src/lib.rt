@@ -16,7 +16,7 @@ ghost use Rattle.bounds.specs.Bounds as BoundsSpec;
 ghost use Rattle.bounds.specs.Inner.{marks_by};
 ghost use Rattle.strips.specs.Strip.{column_scores, row_scores};
 ghost use Rattle.strips.specs.Inner.{place_count, Scorable};
-ghost use Rattle.sample.specs.Inner.{CellGives, RecordIn};
+ghost use Rattle.sample.specs.Inner.{CellGives};
 ghost use Rattle.folgutan_inner.specs.Inner.{as_bounds};
 ghost use Rattle.std.specs.Float.Ieee.{is_nan};
 ghost use Rattle.binary32.specs.Binary32 as Binary32;
@@ -201,7 +201,7 @@ pub extern "C" fn folgutan_inner_sample(
     size: usize,
     out: &mut [f32],
 ) -> u32
-    requires { RecordIn b × (3 * (b.height * b.width) ≤ length planes.now) }
+    requires { 3 * (b.height * b.width) ≤ length planes.now }
     ensures { CellGives b planes.now x y size out.old result out.new }
 {
     sample::cell_of(b, planes, x, y, size, out)

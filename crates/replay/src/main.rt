@@ -2,13 +2,7 @@
 // The planes are handed out channel by channel.
 #![tactic(auto)]
 
-use libc::STDOUT_FILENO;
-
-// A number in a line of its own.
-fn line(n: u32) {
-    io::print_decimal(STDOUT_FILENO, n as u64);
-    io::write_all(STDOUT_FILENO, b"\n");
-}
+use std::io;
 
 // The bits; of what is no number, which no plane holds, the largest u32.
 fn bits(x: f32) -> u32 {
@@ -27,25 +21,25 @@ fn drawn() -> [u8; 1024] {
     pixels
 }
 
-// The values of one plane, or of none.
-fn show(plane: &[f32]) {
-    for n in 0..plane.len() {
-        line(bits(plane[n]));
+// The values of one plane, or of none, each in a line of its own.
+fn show(rt: &impl Print, plane: &[f32]) -> io::Result<()> {
+    for x in plane {
+        println!(rt; "{}", bits(*x))?;
     }
+    Ok(())
 }
 
-fn main() {
+fn main(rt: HostRuntime) -> io::Result<()> {
     let pixels = drawn();
     let mut planes: [f32; 768] = [0.0; 768];
     let loaded = load::new(16, 16, &pixels, &mut planes);
-    io::write_all(STDOUT_FILENO, b"load 16 16\n");
+    println!(rt; "load 16 16")?;
     if loaded.answer != 0 {
-        line(loaded.answer);
-        return;
+        return println!(rt; "{}", loaded.answer);
     }
-    show(board::channel(16, 16, &planes, 0));
-    show(board::channel(16, 16, &planes, 1));
-    show(board::channel(16, 16, &planes, 2));
+    show(&rt, board::channel(16, 16, &planes, 0))?;
+    show(&rt, board::channel(16, 16, &planes, 1))?;
+    show(&rt, board::channel(16, 16, &planes, 2))?;
     // No plane: an empty part, which adds no line.
-    show(board::channel(16, 16, &planes, 3));
+    show(&rt, board::channel(16, 16, &planes, 3))
 }

@@ -7,16 +7,11 @@
 ghost use Rattle.std.specs.Prelude.{◌<◌};
 
 use board::Board;
-use libc::{STDIN_FILENO, STDOUT_FILENO};
 use locate::Located;
+use std::io::{self, Read};
 
 // The longest side of a stored screen.
 const MOST: usize = 210;
-
-fn number(n: u64) {
-    io::write_all(STDOUT_FILENO, b" ");
-    io::print_decimal(STDOUT_FILENO, n);
-}
 
 // The bits of a pitch or of a plane value; of what is no number, which neither is, the largest u32.
 fn bits(x: f32) -> u32 {
@@ -24,35 +19,39 @@ fn bits(x: f32) -> u32 {
 }
 
 // The bits of a plane value, after a blank. The planes are never so short that 0 is printed for it.
-fn value(planes: &[f32], at: usize) {
+fn value(rt: &impl Print, planes: &[f32], at: usize) -> io::Result<()> {
     if planes.len() <= at {
-        number(0);
-        return;
+        return print!(rt; " 0");
     }
-    number(bits(planes[at]) as u64);
+    print!(rt; " {}", bits(planes[at]))
+}
+
+// The record, each number after a blank.
+fn record(rt: &impl Print, b: Board) -> io::Result<()> {
+    print!(rt;
+        " {} {} {} {} {} {}",
+        b.height, b.width, b.r_1, b.c_1, b.r_2, b.c_2
+    )?;
+    print!(rt;
+        " {} {} {} {} {} {}",
+        b.r0,
+        b.c0,
+        b.r,
+        b.c,
+        bits(b.pixelr),
+        bits(b.pixelc)
+    )
 }
 
 // The answer, the record and four plane values in a line. The smallest screen has more, so that none is of the screen before.
-fn show(l: Located, planes: &[f32]) {
-    let b = l.board;
-    io::print_decimal(STDOUT_FILENO, l.answer as u64);
-    number(b.height as u64);
-    number(b.width as u64);
-    number(b.r_1 as u64);
-    number(b.c_1 as u64);
-    number(b.r_2 as u64);
-    number(b.c_2 as u64);
-    number(b.r0 as u64);
-    number(b.c0 as u64);
-    number(b.r as u64);
-    number(b.c as u64);
-    number(bits(b.pixelr) as u64);
-    number(bits(b.pixelc) as u64);
-    value(planes, 7);
-    value(planes, 777);
-    value(planes, 1777);
-    value(planes, 2777);
-    io::write_all(STDOUT_FILENO, b"\n");
+fn show(rt: &impl Print, l: Located, planes: &[f32]) -> io::Result<()> {
+    print!(rt; "{}", l.answer)?;
+    record(rt, l.board)?;
+    value(rt, planes, 7)?;
+    value(rt, planes, 777)?;
+    value(rt, planes, 1777)?;
+    value(rt, planes, 2777)?;
+    println!(rt; "")
 }
 
 fn wide(b: u8) -> usize
@@ -62,7 +61,7 @@ fn wide(b: u8) -> usize
 }
 
 // Reads the pixels of a screen; false where a side is too large, or pixels are missing.
-fn read_pixels(height: usize, width: usize, pixels: &mut [u8]) -> bool {
+fn read_pixels<R: Read>(from: &mut R, height: usize, width: usize, pixels: &mut [u8]) -> bool {
     if MOST < height {
         return false;
     }
@@ -73,12 +72,13 @@ fn read_pixels(height: usize, width: usize, pixels: &mut [u8]) -> bool {
     if pixels.len() < n {
         return false;
     }
-    io::read_full(STDIN_FILENO, &mut pixels[..n]) == n
+    stream::read_full(from, &mut pixels[..n]) == n
 }
 
 // Loads a screen, locates its board by the factor and prints the line. The record of a screen that does not load is zeros, which
 // locating refuses.
 fn replay(
+    rt: &impl Print,
     factor: usize,
     height: usize,
     width: usize,
@@ -89,7 +89,7 @@ fn replay(
     scratch_f32: &mut [f32],
     scratch_u8: &mut [u8],
     scratch_u32: &mut [u32],
-) {
+) -> io::Result<()> {
     let loaded = load::new(height, width, pixels, planes);
     let l = locate::get_pos_pixel(
         loaded.board,
@@ -101,11 +101,12 @@ fn replay(
         scratch_u8,
         scratch_u32,
     );
-    show(l, planes);
+    show(rt, l, planes)
 }
 
 // A screen by each factor.
 fn replay_each(
+    rt: &impl Print,
     height: usize,
     width: usize,
     pixels: &[u8],
@@ -115,10 +116,10 @@ fn replay_each(
     scratch_f32: &mut [f32],
     scratch_u8: &mut [u8],
     scratch_u32: &mut [u32],
-) {
-    let mut factor = Board::LEAST_FACTOR;
-    while factor <= Board::MOST_FACTOR {
+) -> io::Result<()> {
+    for factor in Board::LEAST_FACTOR..Board::MOST_FACTOR + 1 {
         replay(
+            rt,
             factor,
             height,
             width,
@@ -129,13 +130,15 @@ fn replay_each(
             scratch_f32,
             scratch_u8,
             scratch_u32,
-        );
-        factor = factor + 1;
+        )?;
     }
+    Ok(())
 }
 
 // Replays the next screen; false where no whole screen is left.
-fn replayed(
+fn replayed<R: Read>(
+    rt: &impl Print,
+    from: &mut R,
     pixels: &mut [u8],
     planes: &mut [f32],
     edges: &mut [u8],
@@ -143,17 +146,18 @@ fn replayed(
     scratch_f32: &mut [f32],
     scratch_u8: &mut [u8],
     scratch_u32: &mut [u32],
-) -> bool {
+) -> io::Result<bool> {
     let mut sides = [0u8; 4];
-    if io::read_full(STDIN_FILENO, &mut sides) < 4 {
-        return false;
+    if stream::read_full(from, &mut sides) < 4 {
+        return Ok(false);
     }
     let height = wide(sides[0]) + 256 * wide(sides[1]);
     let width = wide(sides[2]) + 256 * wide(sides[3]);
-    if !read_pixels(height, width, pixels) {
-        return false;
+    if !read_pixels(from, height, width, pixels) {
+        return Ok(false);
     }
     replay_each(
+        rt,
         height,
         width,
         pixels,
@@ -163,12 +167,14 @@ fn replayed(
         scratch_f32,
         scratch_u8,
         scratch_u32,
-    );
-    true
+    )?;
+    Ok(true)
 }
 
 // All screens, at most a hundred.
-fn replay_all(
+fn replay_all<R: Read>(
+    rt: &impl Print,
+    from: &mut R,
     pixels: &mut [u8],
     planes: &mut [f32],
     edges: &mut [u8],
@@ -176,10 +182,11 @@ fn replay_all(
     scratch_f32: &mut [f32],
     scratch_u8: &mut [u8],
     scratch_u32: &mut [u32],
-) {
-    let mut left: usize = 100;
-    while 0 < left {
-        if replayed(
+) -> io::Result<()> {
+    for _ in 0..100 {
+        if !replayed(
+            rt,
+            from,
             pixels,
             planes,
             edges,
@@ -187,15 +194,15 @@ fn replay_all(
             scratch_f32,
             scratch_u8,
             scratch_u32,
-        ) {
-            left = left - 1;
-        } else {
-            left = 0;
+        )? {
+            break;
         }
     }
+    Ok(())
 }
 
-fn main() {
+fn main(rt: HostRuntime) -> io::Result<()> {
+    let mut input = rt.reader();
     let mut pixels: [u8; 176400] = [0; 176400];
     let mut planes: [f32; 132300] = [0.0; 132300];
     let mut edges: [u8; 44100] = [0; 44100];
@@ -204,6 +211,8 @@ fn main() {
     let mut scratch_u8: [u8; 44100] = [0; 44100];
     let mut scratch_u32: [u32; 1680] = [0; 1680];
     replay_all(
+        &rt,
+        &mut input,
         &mut pixels,
         &mut planes,
         &mut edges,
@@ -211,5 +220,5 @@ fn main() {
         &mut scratch_f32,
         &mut scratch_u8,
         &mut scratch_u32,
-    );
+    )
 }

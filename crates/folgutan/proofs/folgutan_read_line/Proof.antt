@@ -3,31 +3,31 @@ use borrow.Author.Rules.{rules}
 use Rattle.folgutan.proofs.folgutan_read_line.Statement.{statement}
 use Rattle.folgutan.proofs.folgutan_read_line.Tie as tie
 
-get-line-requires : tie.Need-get-line-requires
+get-line-requires : tie.Need-get_line-reading-requires
 get-line-requires c κs = search rules
 
-enum-known-reading : tie.Need-enum-known-reading
+enum-known-reading : tie.Need-enum_known-reading
 enum-known-reading c = search rules
 
-enum-known-reading-2 : tie.Need-enum-known-reading-2
+enum-known-reading-2 : tie.Need-enum_known-reading-in-Refused-1
 enum-known-reading-2 c = search rules
 
-same_length : tie.Need-same-length
+same_length : tie.Need-shape_of-scratch-in-Read
 same_length c = search rules
 
-returns : tie.Need-returns
+returns : tie.Need-returns-in-Read
 returns c =
-    rw c.before.reading.given.1 at c.before.before.before.before.before.get-line.ensures.1
+    rw c.in-Read.is at c.get_line-reading.ensures.1
 
-same-length-2 : tie.Need-same-length-2
+same-length-2 : tie.Need-shape_of-scratch-in-Refused
 same-length-2 c = search rules
 
-returns-2 : tie.Need-returns-2
+returns-2 : tie.Need-returns-in-Refused
 returns-2 c =
-    rw c.before.reading2.given.1 at c.before.before.before.before.before.get-line.ensures.1
+    rw c.in-Refused.is at c.get_line-reading.ensures.1
 
-pub folgutan-read-line-spec : {M : Type 1} → statement M
-folgutan-read-line-spec =
+pub folgutan_read_line_spec : {M : Type 1} → statement M
+folgutan_read_line_spec =
     tie.close
     (tie.spec
     get-line-requires

@@ -3,19 +3,19 @@ use borrow.Author.Rules.{rules}
 use Rattle.folgutan_inner.proofs.folgutan_inner_edges.Statement.{statement}
 use Rattle.folgutan_inner.proofs.folgutan_inner_edges.Tie as tie
 
-threshold-of-requires : tie.Need-threshold-of-requires
+threshold-of-requires : tie.Need-threshold_of-th-requires
 threshold-of-requires c κs = search rules
 
 mark-requires : tie.Need-mark-requires
 mark-requires c κs = search rules
 
-same_length : tie.Need-same-length
+same_length : tie.Need-shape_of-out
 same_length c = search rules
 
 returns : tie.Need-returns
 returns c =
-    let at = c.before.before.before.before in
-    rw (at.threshold-of.ensures, at.before.before.before.requires.2.long) at c.before.before.mark.ensures
+    let at = c in
+    rw (at.threshold_of-th.ensures, at.requires.2.long) at c.mark.ensures
 
-pub folgutan-inner-edges-spec : {M : Type 1} → statement M
-folgutan-inner-edges-spec = tie.close (tie.spec threshold-of-requires mark-requires same_length returns)
+pub folgutan_inner_edges_spec : {M : Type 1} → statement M
+folgutan_inner_edges_spec = tie.close (tie.spec threshold-of-requires mark-requires same_length returns)
