@@ -1,5 +1,5 @@
 -- What a record and planes that are fit for sampling show, and that sampling them is left to the cell. Assumes nothing.
-use Rattle.std.proofs.Common.{◌≡◌, ℕ, ◌*◌, ◌≤◌, Bool, true, false, cond, ◌&&◌, ◌||◌, eqb, ltb, List, Float, refl, arith, le-ltb, ltb-false}
+use Rattle.std.proofs.Common.{◌≡◌, ℕ, ◌*◌, ◌≤◌, Bool, true, false, cond, ◌&&◌, ◌||◌, eqb, ltb, List, Float, refl, le-ltb, ltb-false}
 use borrow.Author.Tests.{eqb-true, eqb-false}
 use Rattle.board.specs.declared.Board.{Board}
 use Rattle.board.specs.Board.{most_size, least_plane_side}
@@ -8,7 +8,7 @@ use Rattle.board.specs.Inner.{FitPlanes}
 use Rattle.board.proofs.Sides.{passed, neither}
 use Rattle.board.proofs.Planes.{planes_fit}
 use Rattle.sample.specs.Inner.{RecordIn}
-use Rattle.sample.specs.Sample.{most_number, pitch_outside, numbers_above, on_board, all_below, row_at, column_at, cell_answer, sample_answer}
+use Rattle.sample.specs.Sample.{most_number, pitch_outside, numbers_above, on_board, all_below, row_at, column_at, sample_answer}
 use Rattle.sample.specs.Fit.{corner_above, record_answer, fit_answer}
 use Rattle.sample.proofs.Answers.{decided}
 

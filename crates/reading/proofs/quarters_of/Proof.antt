@@ -1,6 +1,4 @@
 -- `reading::quarters_of` meets its contract: what is handed on is a refusal that the lines call for, or the lines that remain.
-use Prim.Native.Nat.{ℕ}
-use mathlib.Core.List.{List}
 use native.Mathlib.Omega.{arith}
 use Rattle.reading.specs.Inner.{Standing}
 use Rattle.reading.proofs.Answers.{refused}

@@ -3,7 +3,7 @@
 use mathlib.Core.Path.{◌≡◌, sym, ◌∙◌}
 use mathlib.Core.Bool.{true, false, cond, ◌&&◌, ◌||◌}
 use native.Mathlib.Omega.{arith}
-use borrow.Author.Tests.{lt-ltb, not-true, not-false}
+use borrow.Author.Tests.{lt-ltb}
 use Rattle.sample.specs.Sample.{pitch_outside, numbers_above, on_board, cell_answer}
 use Rattle.sample.proofs.Answers.{NumbersIn, numbers_in, decided}
 use Rattle.sample.proofs.cell_answer.Statement.{statement}
