@@ -16,31 +16,24 @@ use borrow.Author.Rules.{rules}
 use Rattle.axes.proofs.read_axes.Statement.{statement}
 use Rattle.axes.proofs.read_axes.Tie as tie
 
--- after both counts: what was handed in, and the slice with both lists at its front
-abbrev bounds : tie.After-place_count → Bounds
-bounds c = c.args.b
-
 abbrev E : tie.After-place_count → ℕ → ℕ → Bool
 E c = points c.args.stride 1 c.args.edges.now
 
-abbrev slice : tie.After-place_count → List ℕ
-slice c = c.score_all.new.scores
-
 lists : (c : tie.After-place_count)
-    → AtFront (column_scores (E c) (bounds c) ++ row_scores (E c) (bounds c)) c.args.scores.now (slice c)
+    → AtFront (column_scores (E c) c.args.b ++ row_scores (E c) c.args.b) c.args.scores.now c.score_all.new.scores
 lists c = c.score_all.ensures
 
-scorable : (c : tie.After-place_count) → Scorable c.args.edges.now c.args.stride (bounds c)
+scorable : (c : tie.After-place_count) → Scorable c.args.edges.now c.args.stride c.args.b
 scorable c = c.requires.0
 
 -- the two parts, by the numbers that were counted
-columns_are : (c : tie.After-place_count) → take c.place_count-across.result (slice c) ≡ column_scores (E c) (bounds c)
-columns_are c = across_part (E c) (bounds c) (lists c) c.place_count-across.ensures c.place_count.ensures
+columns_are : (c : tie.After-place_count) → take c.place_count-across.result c.score_all.new.scores ≡ column_scores (E c) c.args.b
+columns_are c = across_part (E c) c.args.b (lists c) c.place_count-across.ensures c.place_count.ensures
 
 rows_are : (c : tie.After-place_count)
     → let n = c.place_count-across.result in
-    take (n + c.place_count.result - n) (drop n (slice c)) ≡ row_scores (E c) (bounds c)
-rows_are c = down_part (E c) (bounds c) (lists c) c.place_count-across.ensures c.place_count.ensures
+    take (n + c.place_count.result - n) (drop n c.score_all.new.scores) ≡ row_scores (E c) c.args.b
+rows_are c = down_part (E c) c.args.b (lists c) c.place_count-across.ensures c.place_count.ensures
 
 score-all-requires : tie.Need-score_all-requires
 score-all-requires c κs = search rules
@@ -59,16 +52,14 @@ slice-reshare-prefix-quarters-of c = search rules
 
 slice-aggregate-quarters-of : tie.Need-slice_bounds-quarters_of-end-2
 slice-aggregate-quarters-of c =
-    let at = c in
-    sym (across_in (E c) (bounds c) (lists c) at.place_count-across.ensures at.place_count.ensures)
+    sym (across_in (E c) c.args.b (lists c) c.place_count-across.ensures c.place_count.ensures)
 
 quarters-of-requires : tie.Need-quarters_of-columns-requires
 quarters-of-requires c κs =
-    let at = c in
-    let counted = at.place_count-across.ensures in
-    let long = across_in (E c.before) (bounds c.before) (lists c.before) counted at.place_count.ensures in
-    let room = at.requires.1.words_in in
-    (rw (columns_are c.before) (across_fit (E c.before) (bounds c.before) (lists c.before) (scorable c.before)), omega (arith, long, counted, room))
+    let counted = c.place_count-across.ensures in
+    let long = across_in (E c.before) c.args.b (lists c.before) counted c.place_count.ensures in
+    let room = c.requires.1.words_in in
+    (rw (columns_are c.before) (across_fit (E c.before) c.args.b (lists c.before) (scorable c.before)), omega (arith, long, counted, room))
 
 mul-quarters-of : tie.Need-offset_bounds-scores-across
 mul-quarters-of c = search rules
@@ -84,11 +75,11 @@ part-quarters-of-end c = search rules
 
 quarters-of-requires-2 : tie.Need-quarters_of-rows-requires
 quarters-of-requires-2 c κs =
-    let at = c in
-    let counted = at.place_count.ensures in
-    let long = down_in (E c.before.before.before.before.before.before) (bounds c.before.before.before.before.before.before) (lists c.before.before.before.before.before.before) at.place_count-across.ensures counted in
-    let room = at.requires.1.words_in in
-    (rw (rows_are c.before.before.before.before.before.before) (down_fit (E c.before.before.before.before.before.before) (bounds c.before.before.before.before.before.before) (lists c.before.before.before.before.before.before) (scorable c.before.before.before.before.before.before)), omega (arith, long, counted, room))
+    let past = c.before.before.before.before.before.before in
+    let counted = c.place_count.ensures in
+    let long = down_in (E past) c.args.b (lists past) c.place_count-across.ensures counted in
+    let room = c.requires.1.words_in in
+    (rw (rows_are past) (down_fit (E past) c.args.b (lists past) (scorable past)), omega (arith, long, counted, room))
 
 same_length : tie.Need-shape_of-scores
 same_length c = search rules
@@ -101,12 +92,11 @@ same-length-3 c = search rules
 
 returns : tie.Need-returns
 returns c =
-    let columns = c in
-    let at = c in
+    let past = c.before.before.before.before.before.before.before.before.before in
     record {
-      columns_are = columns.quarters_of-columns.ensures ∙ ap quarters_of (columns_are c.before.before.before.before.before.before.before.before.before);
-      rows_are = c.quarters_of-rows.ensures ∙ ap quarters_of (rows_are c.before.before.before.before.before.before.before.before.before);
-      scores_are = lists c.before.before.before.before.before.before.before.before.before;
+      columns_are = c.quarters_of-columns.ensures ∙ ap quarters_of (columns_are past);
+      rows_are = c.quarters_of-rows.ensures ∙ ap quarters_of (rows_are past);
+      scores_are = lists past;
     }
 
 pub read_axes_spec : {M : Type 1} → statement M

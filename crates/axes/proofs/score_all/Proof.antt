@@ -35,10 +35,8 @@ same-length-2 c = search rules
 
 returns : tie.Need-returns
 returns c =
-    let columns = c in
     let count = c.place_count-from.ensures in
-    let rows = c in
-    front_behind _ (length_scores _ _ _ _ _ ∙ sym count) columns.column_scores.ensures rows.row_scores.ensures
+    front_behind _ (length_scores _ _ _ _ _ ∙ sym count) c.column_scores.ensures c.row_scores.ensures
 
 pub score_all_spec : {M : Type 1} → statement M
 score_all_spec =

@@ -22,8 +22,7 @@ place-of-requires c κs = search rules
 
 loop-holds : tie.Need-loop-to-init invariant-loop decreases-loop
 loop-holds c =
-    let s = c in
-    (rw c.place_of-m.ensures (place_below s.args.v.way (omega arith)), omega arith, reached_none _ _ _)
+    (rw c.place_of-m.ensures (place_below c.args.v.way (omega arith)), omega arith, reached_none _ _ _)
 
 move-from-requires : tie.Need-move_from-next-requires invariant-loop decreases-loop
 move-from-requires c κs = (c.requires.0, c.loop-to.invariant.0, c.loop-to.invariant.1)
@@ -37,23 +36,20 @@ place-of-requires-2 c κs = search rules
 returns : tie.Need-returns-in-Stop invariant-loop decreases-loop
 unfolding bound seen
 returns c =
-    let l = c in
-    let a = l.args in
+    let a = c.args in
     let stops = sym c.move_from-next.ensures ∙ c.in-Stop.is in
-    rw (c.place_of.ensures, ← reached_end (steep a.v a.th a.g.now) _ _ l.loop-to.invariant.2 stops, l.place_of-m.ensures)
+    rw (c.place_of.ensures, ← reached_end (steep a.v a.th a.g.now) _ _ c.loop-to.invariant.2 stops, c.place_of-m.ensures)
 
 enum-known-next : tie.Need-enum_known-next invariant-loop decreases-loop
 enum-known-next c = search rules
 
 -- a move lowers the distance, and stays in the picture
 falls : (c : tie.In-To invariant-loop decreases-loop) →
-    let l = c in
-    (c.in-To.to < l.loop-to.m) × (c.in-To.at < l.args.v.across)
+    (c.in-To.to < c.loop-to.m) × (c.in-To.at < c.args.v.across)
 falls c =
-    let l = c in
-    let a = l.args in
+    let a = c.args in
     let goes = sym c.move_from-next.ensures ∙ c.in-To.is in
-    move_to (steep a.v a.th a.g.now) (low a.v) (high a.v) l.loop-to.m l.loop-to.p (omega arith) l.loop-to.invariant.1 goes
+    move_to (steep a.v a.th a.g.now) (low a.v) (high a.v) c.loop-to.m c.loop-to.p (omega arith) c.loop-to.invariant.1 goes
 
 loop-less : tie.Need-loop-to-smaller invariant-loop decreases-loop
 loop-less c = (falls c).0

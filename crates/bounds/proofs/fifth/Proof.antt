@@ -26,15 +26,14 @@ loop-holds : tie.Need-loop-p-init invariant-loop decreases-loop
 loop-holds c = (omega arith, refl)
 
 is-steep-requires : tie.Need-is_steep-requires invariant-loop decreases-loop
-is-steep-requires c κs = let s = c in (s.requires.0, omega (arith, s.requires.0.small), s.requires.1)
+is-steep-requires c κs = (c.requires.0, omega (arith, c.requires.0.small), c.requires.1)
 
 returns : tie.Need-returns-then-more-eq0 invariant-loop decreases-loop
 returns c =
-    let l = c in
-    let a = l.args in
+    let a = c.args in
     let more =
-    seen_more (λ q. steep a.v a.th a.g.now q a.m) l.loop-p.more l.loop-p.p _ c.loop-p-test.true in
-    rw (l.loop-p.invariant.1, more, sym c.is_steep.ensures ∙ c.if-is_steep.true, eq-eqb l.loop-p.more 0 c.if-more-eq0.true)
+    seen_more (λ q. steep a.v a.th a.g.now q a.m) c.loop-p.more c.loop-p.p _ c.loop-p-test.true in
+    rw (c.loop-p.invariant.1, more, sym c.is_steep.ensures ∙ c.if-is_steep.true, eq-eqb c.loop-p.more 0 c.if-more-eq0.true)
 
 sub_more : tie.Need-overflow_sub-more invariant-loop decreases-loop
 sub_more c = search rules
@@ -47,23 +46,21 @@ loop-less c = search rules
 
 loop-again : tie.Need-loop-p-preserved invariant-loop decreases-loop
 loop-again c =
-    let l = c in
-    let a = l.args in
+    let a = c.args in
     let more =
-    l.loop-p.invariant.1 ∙ seen_more (λ q. steep a.v a.th a.g.now q a.m) l.loop-p.more l.loop-p.p _
+    c.loop-p.invariant.1 ∙ seen_more (λ q. steep a.v a.th a.g.now q a.m) c.loop-p.more c.loop-p.p _
     c.loop-p-test.true in
     let e = c.is_steep.ensures in
     ⊎_elim
-    (λ w. (omega arith, rw w.more-is (rw (sym e ∙ w.if-is_steep.true, ne_eqb l.loop-p.more 0 w.if-more-eq0.false) at more)))
+    (λ w. (omega arith, rw w.more-is (rw (sym e ∙ w.if-is_steep.true, ne_eqb c.loop-p.more 0 w.if-more-eq0.false) at more)))
     (λ w. (omega arith, rw w.more-is (rw (sym e ∙ w.if-is_steep.false) at more)))
     c.if-is_steep.branch-raw
 
 returns-2 : tie.Need-returns invariant-loop decreases-loop
 returns-2 c =
-    let l = c in
-    let a = l.args in
-    let none = seen_none (λ q. steep a.v a.th a.g.now q a.m) l.loop-p.more l.loop-p.p _ c.loop-p-test.false in
-    sym (l.loop-p.invariant.1 ∙ none ∙ omega arith)
+    let a = c.args in
+    let none = seen_none (λ q. steep a.v a.th a.g.now q a.m) c.loop-p.more c.loop-p.p _ c.loop-p-test.false in
+    sym (c.loop-p.invariant.1 ∙ none ∙ omega arith)
 
 pub fifth_spec : {M : Type 1} → statement M
 fifth_spec =

@@ -40,14 +40,11 @@ bound-of-requires-4 c κs =
 
 returns : tie.Need-returns
 returns c =
-    let c_1 = c in
-    let r-2 = c in
-    let r-1 = c in
-    let a = r-1.args in
+    let a = c.args in
     let E = marks_by a.th a.g.now in
-    let is-r-1 = of_rows bound Near a.row a.column a.column E r-1.bound_of.ensures r-1.rows.ensures in
-    let is-r-2 = of_rows bound Far a.row a.column a.column E r-2.bound_of-2.ensures r-2.rows-2.ensures in
-    let is-c-1 = of_columns bound Near a.row a.column a.column E c_1.bound_of-3.ensures c_1.columns.ensures in
+    let is-r-1 = of_rows bound Near a.row a.column a.column E c.bound_of.ensures c.rows.ensures in
+    let is-r-2 = of_rows bound Far a.row a.column a.column E c.bound_of-2.ensures c.rows-2.ensures in
+    let is-c-1 = of_columns bound Near a.row a.column a.column E c.bound_of-3.ensures c.columns.ensures in
     let is-c-2 = of_columns bound Far a.row a.column a.column E c.bound_of-4.ensures c.columns-2.ensures in
     rw (is-r-1, is-r-2, is-c-1, is-c-2)
 

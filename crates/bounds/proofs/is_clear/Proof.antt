@@ -26,22 +26,19 @@ loop-holds c = (omega arith, omega arith, omega arith)
 
 pair-at-requires : tie.Need-pair_at-sum-requires invariant-loop decreases-loop
 pair-at-requires c κs =
-    let s = c in
-    (s.requires.0, omega arith, omega (arith, s.requires.0.small), s.requires.2, s.requires.3)
+    (c.requires.0, omega arith, omega (arith, c.requires.0.small), c.requires.2, c.requires.3)
 
 add-sum : tie.Need-overflow_add-sum invariant-loop decreases-loop
 add-sum c =
-    let l = c in
-    let a = l.args in
-    omega (arith, c.pair_at-sum.ensures, pair_le a.beside (seen a.v a.e.now) a.m l.loop-p.p)
+    let a = c.args in
+    omega (arith, c.pair_at-sum.ensures, pair_le a.beside (seen a.v a.e.now) a.m c.loop-p.p)
 
 returns : tie.Need-returns-then-sum-gt2 invariant-loop decreases-loop
 returns c =
-    let l = c in
-    let a = l.args in
-    let more = total_more (pair a.beside (seen a.v a.e.now) a.m) l.loop-p.p _ c.loop-p-test.true in
+    let a = c.args in
+    let more = total_more (pair a.beside (seen a.v a.e.now) a.m) c.loop-p.p _ c.loop-p-test.true in
     let sum = sum_at a.beside (seen a.v a.e.now) a.v.across a.m in
-    sym (lt-leb sum 2 (omega (arith, l.loop-p.invariant.2, more, c.pair_at-sum.ensures, c.if-sum-gt2.true)))
+    sym (lt-leb sum 2 (omega (arith, c.loop-p.invariant.2, more, c.pair_at-sum.ensures, c.if-sum-gt2.true)))
 
 add-p : tie.Need-overflow_step-p-in-loop-p invariant-loop decreases-loop
 add-p c = search rules
@@ -51,18 +48,16 @@ loop-less c = search rules
 
 loop-again : tie.Need-loop-p-preserved invariant-loop decreases-loop
 loop-again c =
-    let l = c in
-    let a = l.args in
-    let more = total_more (pair a.beside (seen a.v a.e.now) a.m) l.loop-p.p _ c.loop-p-test.true in
-    (omega arith, omega (arith, c.if-sum-gt2.false), omega (arith, l.loop-p.invariant.2, more, c.pair_at-sum.ensures))
+    let a = c.args in
+    let more = total_more (pair a.beside (seen a.v a.e.now) a.m) c.loop-p.p _ c.loop-p-test.true in
+    (omega arith, omega (arith, c.if-sum-gt2.false), omega (arith, c.loop-p.invariant.2, more, c.pair_at-sum.ensures))
 
 returns-2 : tie.Need-returns invariant-loop decreases-loop
 returns-2 c =
-    let l = c in
-    let a = l.args in
-    let none = total_none (pair a.beside (seen a.v a.e.now) a.m) l.loop-p.p _ c.loop-p-test.false in
+    let a = c.args in
+    let none = total_none (pair a.beside (seen a.v a.e.now) a.m) c.loop-p.p _ c.loop-p-test.false in
     let sum = sum_at a.beside (seen a.v a.e.now) a.v.across a.m in
-    sym (le-leb sum 2 (omega (arith, l.loop-p.invariant.1, l.loop-p.invariant.2, none)))
+    sym (le-leb sum 2 (omega (arith, c.loop-p.invariant.1, c.loop-p.invariant.2, none)))
 
 pub is_clear_spec : {M : Type 1} → statement M
 is_clear_spec =

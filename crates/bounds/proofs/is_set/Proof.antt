@@ -15,7 +15,7 @@ place-of-requires c κs = search rules
 -- the point is a byte of the slice
 here : (c : tie.After-place_of-q) → let a = c.args in
     a.p * a.v.down + c.place_of-q.result * a.v.right < length a.e.now
-here c = let s = c in rw c.place_of-q.ensures (point_in s.requires.0 s.requires.1 s.requires.2)
+here c = rw c.place_of-q.ensures (point_in c.requires.0 c.requires.1 c.requires.2)
 
 mul_at : tie.Need-overflow_mul-at
 mul_at c = omega (arith, here c.before)

@@ -17,7 +17,7 @@ place-of-requires c κs = search rules
 -- the point is a gradient of the slice
 here : (c : tie.After-place_of-q) → let a = c.args in
     a.p * a.v.down + c.place_of-q.result * a.v.right < length a.g.now
-here c = let s = c in rw c.place_of-q.ensures (point_in s.requires.0 s.requires.1 s.requires.2)
+here c = rw c.place_of-q.ensures (point_in c.requires.0 c.requires.1 c.requires.2)
 
 mul_at : tie.Need-overflow_mul-at
 mul_at c = omega (arith, here c.before)
@@ -37,9 +37,8 @@ shared-slice-read-result c = here c.before.before.before
 returns : tie.Need-returns
 unfolding seen points
 returns c =
-    let at = c in
-    let a = at.args in
-    rw at.place_of-q.ensures (sym (mark_is a.th (length a.g.now) a.g.now _ (rw at.place_of-q.ensures at (here c.before.before.before))))
+    let a = c.args in
+    rw c.place_of-q.ensures (sym (mark_is a.th (length a.g.now) a.g.now _ (rw c.place_of-q.ensures at (here c.before.before.before))))
 
 pub is_steep_spec : {M : Type 1} → statement M
 is_steep_spec =

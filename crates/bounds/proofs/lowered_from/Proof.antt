@@ -25,10 +25,9 @@ is-clear-requires c κs = search rules
 
 returns : tie.Need-returns-then-is_clear invariant-loop decreases-loop
 returns c =
-    let l = c in
-    let a = l.args in
-    let more = lowered_more (sum_at a.beside (seen a.v a.e.now) a.v.across) l.loop-m.m (omega arith) in
-    rw (l.loop-m.invariant.1, more, sym c.is_clear.ensures ∙ c.if-is_clear.true)
+    let a = c.args in
+    let more = lowered_more (sum_at a.beside (seen a.v a.e.now) a.v.across) c.loop-m.m (omega arith) in
+    rw (c.loop-m.invariant.1, more, sym c.is_clear.ensures ∙ c.if-is_clear.true)
 
 sub-m : tie.Need-overflow_sub-m invariant-loop decreases-loop
 sub-m c = search rules
@@ -38,16 +37,14 @@ loop-less c = search rules
 
 loop-again : tie.Need-loop-m-preserved invariant-loop decreases-loop
 loop-again c =
-    let l = c in
-    let a = l.args in
-    let more = lowered_more (sum_at a.beside (seen a.v a.e.now) a.v.across) l.loop-m.m (omega arith) in
-    (omega arith, rw (sym c.is_clear.ensures ∙ c.if-is_clear.false) at (l.loop-m.invariant.1 ∙ more))
+    let a = c.args in
+    let more = lowered_more (sum_at a.beside (seen a.v a.e.now) a.v.across) c.loop-m.m (omega arith) in
+    (omega arith, rw (sym c.is_clear.ensures ∙ c.if-is_clear.false) at (c.loop-m.invariant.1 ∙ more))
 
 returns-2 : tie.Need-returns invariant-loop decreases-loop
 returns-2 c =
-    let l = c in
-    let a = l.args in
-    sym (l.loop-m.invariant.1 ∙ lowered_none (sum_at a.beside (seen a.v a.e.now) a.v.across) l.loop-m.m (omega arith))
+    let a = c.args in
+    sym (c.loop-m.invariant.1 ∙ lowered_none (sum_at a.beside (seen a.v a.e.now) a.v.across) c.loop-m.m (omega arith))
 
 pub lowered_from_spec : {M : Type 1} → statement M
 lowered_from_spec =

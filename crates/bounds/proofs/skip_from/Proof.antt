@@ -22,10 +22,9 @@ loop-holds c = (omega arith, omega arith, refl)
 
 returns : tie.Need-returns-then-m-skip invariant-loop decreases-loop
 returns c =
-    let l = c in
-    let a = l.args in
-    let more = skips_more (steep a.v a.th a.g.now) (low a.v) (high a.v) a.m l.loop-skip.skip (omega arith) in
-    rw (l.loop-skip.invariant.2, more, le-leb a.m l.loop-skip.skip c.if-m-skip.true)
+    let a = c.args in
+    let more = skips_more (steep a.v a.th a.g.now) (low a.v) (high a.v) a.m c.loop-skip.skip (omega arith) in
+    rw (c.loop-skip.invariant.2, more, le-leb a.m c.loop-skip.skip c.if-m-skip.true)
 
 sub-next : tie.Need-overflow_sub-next invariant-loop decreases-loop
 sub-next c = search rules
@@ -38,12 +37,11 @@ mul-if2 c = search rules
 
 returns-2 : tie.Need-returns-then-p-v invariant-loop decreases-loop
 returns-2 c =
-    let l = c in
-    let a = l.args in
-    let more = skips_more (steep a.v a.th a.g.now) (low a.v) (high a.v) a.m l.loop-skip.skip (omega arith) in
+    let a = c.args in
+    let more = skips_more (steep a.v a.th a.g.now) (low a.v) (high a.v) a.m c.loop-skip.skip (omega arith) in
     let at = c.fifth-p in
-    let on = lt-leb a.m l.loop-skip.skip c.if-m-skip.false in
-    rw (l.loop-skip.invariant.2, more, on, ← at.ensures, lt-ltb at.result (high a.v) c.if-p-v.true)
+    let on = lt-leb a.m c.loop-skip.skip c.if-m-skip.false in
+    rw (c.loop-skip.invariant.2, more, on, ← at.ensures, lt-ltb at.result (high a.v) c.if-p-v.true)
 
 add-skip : tie.Need-overflow_step-skip invariant-loop decreases-loop
 add-skip c = search rules
@@ -53,18 +51,16 @@ loop-less c = search rules
 
 loop-again : tie.Need-loop-skip-preserved invariant-loop decreases-loop
 loop-again c =
-    let l = c in
-    let a = l.args in
-    let more = skips_more (steep a.v a.th a.g.now) (low a.v) (high a.v) a.m l.loop-skip.skip (omega arith) in
+    let a = c.args in
+    let more = skips_more (steep a.v a.th a.g.now) (low a.v) (high a.v) a.m c.loop-skip.skip (omega arith) in
     let at = c.fifth-p in
-    let on = lt-leb a.m l.loop-skip.skip c.if-m-skip.false in
-    (omega arith, omega arith, rw (on, ← at.ensures, le-ltb at.result (high a.v) c.if-p-v.false) at (l.loop-skip.invariant.2 ∙ more))
+    let on = lt-leb a.m c.loop-skip.skip c.if-m-skip.false in
+    (omega arith, omega arith, rw (on, ← at.ensures, le-ltb at.result (high a.v) c.if-p-v.false) at (c.loop-skip.invariant.2 ∙ more))
 
 returns-3 : tie.Need-returns invariant-loop decreases-loop
 returns-3 c =
-    let l = c in
-    let a = l.args in
-    sym (l.loop-skip.invariant.2 ∙ skips_none (steep a.v a.th a.g.now) (low a.v) (high a.v) a.m l.loop-skip.skip (omega arith))
+    let a = c.args in
+    sym (c.loop-skip.invariant.2 ∙ skips_none (steep a.v a.th a.g.now) (low a.v) (high a.v) a.m c.loop-skip.skip (omega arith))
 
 pub skip_from_spec : {M : Type 1} → statement M
 skip_from_spec =

@@ -44,18 +44,15 @@ widened-from-requires-4 c κs =
 returns : tie.Need-returns
 returns c =
     let rule : Beside → ℕ → Way → (ℕ → ℕ → Bool) → ℕ → ℕ → ℕ = λ b p way E across along. widened b way E across along p in
-    let c_1 = c in
-    let r-2 = c in
-    let r-1 = c in
-    let a = r-1.args in
+    let a = c.args in
     let E = a.edges.now in
     let is-r-1 =
-    of_rows (rule Along a.b.r_1) Near a.row a.column a.stride E r-1.widened_from.ensures r-1.rows.ensures in
+    of_rows (rule Along a.b.r_1) Near a.row a.column a.stride E c.widened_from.ensures c.rows.ensures in
     let is-r-2 =
-    of_rows (rule Along a.b.r_2) Far a.row a.column a.stride E r-2.widened_from-2.ensures r-2.rows-2.ensures in
+    of_rows (rule Along a.b.r_2) Far a.row a.column a.stride E c.widened_from-2.ensures c.rows-2.ensures in
     let is-c-1 =
-    of_columns (rule Across a.b.c_1) Near a.row a.column a.stride E c_1.widened_from-3.ensures
-    c_1.columns.ensures in
+    of_columns (rule Across a.b.c_1) Near a.row a.column a.stride E c.widened_from-3.ensures
+    c.columns.ensures in
     let is-c-2 =
     of_columns (rule Along a.b.c_2) Far a.row a.column a.stride E c.widened_from-4.ensures
     c.columns-2.ensures in

@@ -17,14 +17,12 @@ below c = rw c.place_of-from.ensures (place_below c.args.v.way c.requires.2)
 
 lowered-from-requires : tie.Need-lowered_from-m-requires
 lowered-from-requires c κs =
-    let s = c in
-    (s.requires.0, s.requires.1, below c)
+    (c.requires.0, c.requires.1, below c)
 
 place-of-requires-2 : tie.Need-place_of-requires
 place-of-requires-2 c κs =
-    let s = c in
     let le =
-    lowered_le (sum_at s.args.beside (seen s.args.v s.args.e.now) s.args.v.across) c.place_of-from.result in
+    lowered_le (sum_at c.args.beside (seen c.args.v c.args.e.now) c.args.v.across) c.place_of-from.result in
     omega (arith, c.lowered_from-m.ensures, le, below c.before)
 
 returns : tie.Need-returns

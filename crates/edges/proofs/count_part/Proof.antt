@@ -16,7 +16,6 @@ invariant-loop every parts row column g bits rows columns count₀ i₀ count i 
 abbrev decreases-loop : tie.decreases-loop-i
 decreases-loop every parts row column g bits rows columns count₀ i₀ count i = rows - i
 
--- the places that the others follow
 taken-requires : tie.Need-taken-rows-requires invariant-loop decreases-loop
 taken-requires c κs = search rules
 
@@ -27,40 +26,33 @@ loop-holds : tie.Need-loop-i-init invariant-loop decreases-loop
 loop-holds c = (omega arith, rw zero-mul counted_none)
 
 row-start-requires : tie.Need-row_start-from-requires invariant-loop decreases-loop
-row-start-requires c κs =
-    let s = c in
-    let sizes = c in (
-      (s.requires.0.0, s.requires.0.1, s.requires.1.row_in, s.requires.1.column_in),
-      (sizes.taken-columns.ensures.0, omega (arith, sizes.taken-rows.ensures.0, c.loop-i-test.true)),
-    )
+row-start-requires c κs = (
+  (c.requires.0.0, c.requires.0.1, c.requires.1.row_in, c.requires.1.column_in),
+  (c.taken-columns.ensures.0, omega (arith, c.taken-rows.ensures.0, c.loop-i-test.true)),
+)
 
 count-row-requires : tie.Need-count_row-count-requires invariant-loop decreases-loop
 count-row-requires c κs =
-    let at = c in
-    let s = c in
-    let wide = at.taken-columns.ensures.1 in
-    ((omega (arith, c.row_start-from.ensures.1, s.requires.1.long), omega (arith, wide), s.requires.0.2), s.requires.1.plain)
+    let wide = c.taken-columns.ensures.1 in
+    ((omega (arith, c.row_start-from.ensures.1, c.requires.1.long), omega (arith, wide), c.requires.0.2), c.requires.1.plain)
 
 -- the count with one row more
 here : (c : tie.After-count_row-count invariant-loop decreases-loop)
-    → let at = c in
-    let a = at.args in
-    let n = at.taken-columns.result in
-    Counted a.bits (at_place (part_at a.every a.parts a.row a.column a.g.now) n) ((at.loop-i.i + 1) * n)
-    (at.loop-i.count + c.count_row-count.result)
+    →
+    let a = c.args in
+    let n = c.taken-columns.result in
+    Counted a.bits (at_place (part_at a.every a.parts a.row a.column a.g.now) n) ((c.loop-i.i + 1) * n)
+    (c.loop-i.count + c.count_row-count.result)
 here c =
-    let at = c in
-    let a = at.args in
+    let a = c.args in
     let value = part_at a.every a.parts a.row a.column a.g.now in
-    counted_row value at.taken-columns.result at.loop-i.i at.loop-i.invariant.1
+    counted_row value c.taken-columns.result c.loop-i.i c.loop-i.invariant.1
     (rw c.row_start-from.ensures.0 at c.count_row-count.ensures)
 
 add-count : tie.Need-overflow_add-count invariant-loop decreases-loop
 add-count c =
-    let at = c in
-    let sizes = c in
-    let rows : at.loop-i.i + 1 ≤ 2048 = omega (arith, sizes.taken-rows.ensures.1) in
-    omega (arith, (here c).few, mul-le-mul rows sizes.taken-columns.ensures.1)
+    let rows : c.loop-i.i + 1 ≤ 2048 = omega (arith, c.taken-rows.ensures.1) in
+    omega (arith, (here c).few, mul-le-mul rows c.taken-columns.ensures.1)
 
 add-i : tie.Need-overflow_step-i invariant-loop decreases-loop
 add-i c = search rules
@@ -73,11 +65,9 @@ loop-again c = (omega arith, here c)
 
 returns : tie.Need-returns invariant-loop decreases-loop
 returns c =
-    let at = c in
-    let sizes = c in
-    let a = at.args in
-    let e : at.loop-i.i ≡ taken a.every a.row = omega (arith, sizes.taken-rows.ensures.0) in
-    counted_all (part_at a.every a.parts a.row a.column a.g.now) at.loop-i.invariant.1 e sizes.taken-columns.ensures.0
+    let a = c.args in
+    let e : c.loop-i.i ≡ taken a.every a.row = omega (arith, c.taken-rows.ensures.0) in
+    counted_all (part_at a.every a.parts a.row a.column a.g.now) c.loop-i.invariant.1 e c.taken-columns.ensures.0
 
 pub count_part_spec : {M : Type 1} → statement M
 count_part_spec =

@@ -16,7 +16,6 @@ invariant-loop g from n bits v count₀ k₀ count k = (k ≤ n) × Counted bits
 abbrev decreases-loop : tie.decreases-loop-k
 decreases-loop g from n bits v count₀ k₀ count k = n - k
 
--- the places that the others follow
 float-from-bits-v : tie.Need-float_from_bits-v invariant-loop decreases-loop
 float-from-bits-v c = rw (bits_number _ c.requires.0.2) tt
 
@@ -44,10 +43,9 @@ here : (c : tie.After-at_most invariant-loop decreases-loop)
     let at = c.loop-k in
     Counted a.bits (λ j. get_or a.g.now (a.from + j) nan) (at.k + 1) (at.count + c.at_most.result)
 here c =
-    let s = c in
     let at = c.loop-k in
-    let p = bits_plain _ (c.shared_slice_known-in-loop-k-1.given (s.args.from + at.k)) (s.requires.1 _ (omega arith)) in
-    counted_more at.invariant.1 s.requires.0.2 p c.at_most.ensures
+    let p = bits_plain _ (c.shared_slice_known-in-loop-k-1.given (c.args.from + at.k)) (c.requires.1 _ (omega arith)) in
+    counted_more at.invariant.1 c.requires.0.2 p c.at_most.ensures
 
 add-count : tie.Need-overflow_add-count invariant-loop decreases-loop
 add-count c = omega (arith, (here c).few)

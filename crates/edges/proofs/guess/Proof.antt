@@ -12,7 +12,6 @@ invariant-loop row column g rank range₀ range = (range₀.lo ≤ range.lo) × 
 abbrev decreases-loop : tie.decreases-loop-range
 decreases-loop row column g rank range₀ range = range.hi - range.lo
 
--- the places that a turn comes from: where it begins, and where it counts
 loop-holds : tie.Need-loop-range-init invariant-loop decreases-loop
 loop-holds c = search rules
 

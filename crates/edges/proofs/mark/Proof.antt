@@ -42,18 +42,16 @@ loop-less c = search rules
 
 loop-again : tie.Need-loop-k-preserved invariant-loop decreases-loop
 loop-again c =
-    let at = c in
-    let a = at.args in
-    (omega arith, front_more (λ k. bit (le a.th (get_or a.g.now k nan))) _ at.loop-k.invariant.1 (omega arith) c.at_most.ensures)
+    let a = c.args in
+    (omega arith, front_more (λ k. bit (le a.th (get_or a.g.now k nan))) _ c.loop-k.invariant.1 (omega arith) c.at_most.ensures)
 
 same_length : tie.Need-shape_of-out invariant-loop decreases-loop
 same_length c = search rules
 
 returns : tie.Need-returns invariant-loop decreases-loop
 returns c =
-    let at = c in
-    let e : at.loop-k.k ≡ length at.args.g.now = omega arith in
-    rw e at at.loop-k.invariant.1
+    let e : c.loop-k.k ≡ length c.args.g.now = omega arith in
+    rw e at c.loop-k.invariant.1
 
 pub mark_spec : {M : Type 1} → statement M
 mark_spec =

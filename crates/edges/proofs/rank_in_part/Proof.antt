@@ -35,10 +35,9 @@ div-result c = search rules
 
 add-result : tie.Need-overflow_add-result
 add-result c =
-    let b = c in
-    let x = b.less.result * b.less-2.result in
-    let m = mul-le-mul b.less.ensures.1 b.less-2.ensures.1 in
-    omega (arith, c.struct_known-1.given.1.1.0, m, div-le_self x b.less-wide.result)
+    let x = c.less.result * c.less-2.result in
+    let m = mul-le-mul c.less.ensures.1 c.less-2.ensures.1 in
+    omega (arith, c.struct_known-1.given.1.1.0, m, div-le_self x c.less-wide.result)
 
 returns : tie.Need-returns-then-wide-eq0
 returns c = search rules

@@ -17,7 +17,6 @@ invariant-loop row column g rank seen₀ range₀ seen range = Encloses (part 1 
 abbrev decreases-loop : tie.decreases-loop-range
 decreases-loop row column g rank seen₀ range₀ seen range = range.hi - range.lo
 
--- the places that a turn comes from: where it begins, where it counts, and what it counts
 seen-first-requires : tie.Need-seen_first-seen-requires invariant-loop decreases-loop
 seen-first-requires c κs = search rules
 
@@ -57,17 +56,15 @@ loop-less c =
 
 loop-again : tie.Need-loop-range-preserved invariant-loop decreases-loop
 loop-again c =
-    let at = c in
     let m = c.next_count-mid.ensures in
-    encloses_cut (plain c.before.before.before.before.before.before.before.before) at.loop-range.invariant m.0 m.1 c.count_part-of_all.ensures c.cut-range.ensures
+    encloses_cut (plain c.before.before.before.before.before.before.before.before) c.loop-range.invariant m.0 m.1 c.count_part-of_all.ensures c.cut-range.ensures
 
 returns : tie.Need-returns invariant-loop decreases-loop
 returns c =
-    let at = c in
-    let a = at.args in
-    let i = at.loop-range.invariant in
+    let a = c.args in
+    let i = c.loop-range.invariant in
     let l = part 1 1 a.row a.column a.g.now in
-    let found : (a.rank < length l → at.loop-range.range.lo ≡ sought l a.rank) = λ h. omega (arith, i.low h, i.high h, c.loop-range-test.false) in
+    let found : (a.rank < length l → c.loop-range.range.lo ≡ sought l a.rank) = λ h. omega (arith, i.low h, i.high h, c.loop-range-test.false) in
     (rw (part_all a.row a.column a.g.now) at found, omega (arith, i.some, i.ceiling))
 
 pub threshold_bits_spec : {M : Type 1} → statement M

@@ -12,7 +12,6 @@ use borrow.Author.Rules.{rules}
 use Rattle.edges.proofs.threshold_of.Statement.{statement}
 use Rattle.edges.proofs.threshold_of.Tie as tie
 
--- the place that the others follow
 middle-requires : tie.Need-middle-requires
 middle-requires c κs = search rules
 
@@ -25,10 +24,9 @@ size : (c : tie.After-middle-2)
     let a = c.args in
     (0 < m) × (m ≤ 2 ^ 22) × (m ≡ length (sample a.row a.column a.g.now))
 size c =
-    let s = c in
-    let a = s.args in
+    let a = c.args in
     size_in a.row a.column a.g.now c.middle.ensures c.middle-2.ensures
-    s.requires.0.0 s.requires.1.row_in s.requires.0.1 s.requires.1.column_in
+    c.requires.0.0 c.requires.1.row_in c.requires.0.1 c.requires.1.column_in
 
 mul-rank-of : tie.Need-overflow_mul-middle
 mul-rank-of c = omega (arith, (size c).1)
@@ -51,16 +49,14 @@ float-from-bits-result c = rw (bits_number c.threshold_bits.result (omega (arith
 
 returns : tie.Need-returns
 returns c =
-    let r = c in
-    let s = c in
-    let a = s.args in
+    let a = c.args in
     let m = (size c.before.before).2 in
-    let h : r.rank_of-rank.result < length (sample a.row a.column a.g.now) = rw (sym m) (rank c.before) in
-    let held = r.shared_slice_known-1.given in
-    let plain = sample_plain a.row a.column a.g.now s.requires.1.long held s.requires.1.plain in
+    let h : c.rank_of-rank.result < length (sample a.row a.column a.g.now) = rw (sym m) (rank c.before) in
+    let held = c.shared_slice_known-1.given in
+    let plain = sample_plain a.row a.column a.g.now c.requires.1.long held c.requires.1.plain in
     ap (of_bits binary32) (c.threshold_bits.ensures.0 h)
-    ∙ sought_value (sample a.row a.column a.g.now) r.rank_of-rank.result h plain
-    ∙ sym (threshold_is a.row a.column a.g.now r.rank_of-rank.result (rw (sym m) r.rank_of-rank.ensures))
+    ∙ sought_value (sample a.row a.column a.g.now) c.rank_of-rank.result h plain
+    ∙ sym (threshold_is a.row a.column a.g.now c.rank_of-rank.result (rw (sym m) c.rank_of-rank.ensures))
 
 pub threshold_of_spec : {M : Type 1} → statement M
 threshold_of_spec =

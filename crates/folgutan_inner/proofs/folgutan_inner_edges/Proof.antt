@@ -14,8 +14,7 @@ same_length c = search rules
 
 returns : tie.Need-returns
 returns c =
-    let at = c in
-    rw (at.threshold_of-th.ensures, at.requires.2.long) at c.mark.ensures
+    rw (c.threshold_of-th.ensures, c.requires.2.long) at c.mark.ensures
 
 pub folgutan_inner_edges_spec : {M : Type 1} → statement M
 folgutan_inner_edges_spec = tie.close (tie.spec threshold-of-requires mark-requires same_length returns)

@@ -16,8 +16,7 @@ same-length-2 c = search rules
 
 returns : tie.Need-returns
 returns c =
-    let rows = c in
-    rw rows.bounds_of.ensures at rows.row_scores.ensures
+    rw c.bounds_of.ensures at c.row_scores.ensures
 
 pub folgutan_inner_row_scores_spec : {M : Type 1} → statement M
 folgutan_inner_row_scores_spec =

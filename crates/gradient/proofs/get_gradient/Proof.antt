@@ -27,17 +27,14 @@ planes-answer-requires c κs = search rules
 
 gradient-of-requires : tie.Need-gradient_of-requires
 gradient-of-requires c κs =
-    let then = c in
-    fit _ _ _ then.args.out.now _ (answered c.before.before) then.if-answer-eq0.true
+    fit _ _ _ c.args.out.now _ (answered c.before.before) c.if-answer-eq0.true
 
 same_length : tie.Need-shape_of-out-then-answer-eq0
 same_length c = search rules
 
 returns : tie.Need-returns-then-answer-eq0
 returns c =
-    let wrote = c in
-    let then = c in
-    worked _ _ _ _ _ (answered c.before.before.before.before.before) then.if-answer-eq0.true _ wrote.gradient_of.ensures
+    worked _ _ _ _ _ (answered c.before.before.before.before.before) c.if-answer-eq0.true _ c.gradient_of.ensures
 
 returns-2 : tie.Need-returns
 returns-2 c = refused _ _ _ _ _ (answered c.before) c.if-answer-eq0.false

@@ -29,7 +29,6 @@ invariant-loop height width planes out₀ row column i₀ out i =
 abbrev decreases-loop : tie.decreases-loop-i
 decreases-loop height width planes out₀ row column i₀ out i = row - i
 
--- the places of a turn
 here : (c : tie.In-loop-j invariant-loop2 decreases-loop2 invariant-loop decreases-loop)
     → let a = c.args in
     Place a.height a.width c.loop-i.i c.loop-j.j
@@ -79,13 +78,12 @@ loop2-less c = search rules
 
 loop2-again : tie.Need-loop-j-preserved invariant-loop2 decreases-loop2 invariant-loop decreases-loop
 loop2-again c =
-    let at = c in
-    let a = at.args in
+    let a = c.args in
     let turn = c.loop-j in
-    let value = gradient_at (view a.height a.width a.planes.now).px at.loop-i.i in (
+    let value = gradient_at (view a.height a.width a.planes.now).px c.loop-i.i in (
       omega arith,
       placed_more value _ turn.invariant.1 (omega (arith, (here c.before).point_in))
-          (c.steepest.ensures ∙ sym (gradient_at_lem a.height a.width a.planes.now at.loop-i.i turn.j)),
+          (c.steepest.ensures ∙ sym (gradient_at_lem a.height a.width a.planes.now c.loop-i.i turn.j)),
     )
 
 add-i : tie.Need-overflow_step-i invariant-loop2 decreases-loop2 invariant-loop decreases-loop
@@ -96,11 +94,10 @@ loop-less c = search rules
 
 loop-again : tie.Need-loop-i-preserved invariant-loop2 decreases-loop2 invariant-loop decreases-loop
 loop-again c =
-    let at = c in
-    let a = at.args in
+    let a = c.args in
     let f = gradient_at (view a.height a.width a.planes.now).px in
     let e : c.loop-j.j ≡ a.width - 2 = omega arith in
-    (omega arith, front_row f _ _ at.loop-i.invariant.1 (rw e at c.loop-j.invariant.1))
+    (omega arith, front_row f _ _ c.loop-i.invariant.1 (rw e at c.loop-j.invariant.1))
 
 same_length : tie.Need-shape_of-out invariant-loop2 decreases-loop2 invariant-loop decreases-loop
 same_length c = search rules

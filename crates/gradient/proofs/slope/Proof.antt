@@ -8,7 +8,6 @@ use borrow.Author.Rules.{rules}
 use Rattle.gradient.proofs.slope.Statement.{statement}
 use Rattle.gradient.proofs.slope.Tie as tie
 
--- the place that the others follow
 mul_low : tie.Need-overflow_mul-low
 mul_low c = search rules
 
@@ -82,8 +81,7 @@ summed c =
 
 magnitude-requires : tie.Need-magnitude-requires
 magnitude-requires c κs =
-    let s = c in
-    rw (summed c) (square_number s.args.p.now _ _ _ s.requires.1)
+    rw (summed c) (square_number c.args.p.now _ _ _ c.requires.1)
 
 returns : tie.Need-returns
 returns c = c.magnitude.ensures ∙ ap magnitude (summed c.before)

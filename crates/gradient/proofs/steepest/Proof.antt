@@ -7,13 +7,13 @@ use Rattle.gradient.proofs.steepest.Statement.{statement}
 use Rattle.gradient.proofs.steepest.Tie as tie
 
 steeper-requires : tie.Need-steeper-first-requires
-steeper-requires c κs = let s = c in (omega arith, units_to _ _ _ s.requires.0 s.requires.2 (omega arith))
+steeper-requires c κs = (omega arith, units_to _ _ _ c.requires.0 c.requires.2 (omega arith))
 
 add-steeper : tie.Need-overflow_add-n
 add-steeper c = search rules
 
 steeper-requires-2 : tie.Need-steeper-second-requires
-steeper-requires-2 c κs = let s = c in (omega arith, units_to _ _ _ s.requires.0 s.requires.2 (omega arith))
+steeper-requires-2 c κs = (omega arith, units_to _ _ _ c.requires.0 c.requires.2 (omega arith))
 
 mul-steeper : tie.Need-overflow_mul-n
 mul-steeper c = search rules
@@ -22,7 +22,7 @@ add-steeper-2 : tie.Need-overflow_add-n-2
 add-steeper-2 c = search rules
 
 steeper-requires-3 : tie.Need-steeper-requires
-steeper-requires-3 c κs = let s = c in (omega arith, units_to _ _ _ s.requires.0 s.requires.2 (omega arith))
+steeper-requires-3 c κs = (omega arith, units_to _ _ _ c.requires.0 c.requires.2 (omega arith))
 
 returns : tie.Need-returns
 returns c = let a = c.args in cc (steepest_is a.p.now a.n a.width a.at)

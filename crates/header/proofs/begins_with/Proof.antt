@@ -34,9 +34,8 @@ shared-slice-read-if2-2 c = search rules
 
 returns-2 : tie.Need-returns-then-line-k invariant-loop decreases-loop
 returns-2 c =
-    let at = c in
-    let a = at.args in
-    sym (begins_differs a.line.now a.bytes.now at.loop-k.k (omega arith) (omega arith) c.if-line-k.true) ∙ at.loop-k.invariant.3
+    let a = c.args in
+    sym (begins_differs a.line.now a.bytes.now c.loop-k.k (omega arith) (omega arith) c.if-line-k.true) ∙ c.loop-k.invariant.3
 
 add-k : tie.Need-overflow_step-k invariant-loop decreases-loop
 add-k c = search rules
@@ -46,10 +45,9 @@ loop-less c = search rules
 
 loop-again : tie.Need-loop-k-preserved invariant-loop decreases-loop
 loop-again c =
-    let at = c in
-    let a = at.args in
-    let more = begins_more a.line.now a.bytes.now at.loop-k.k (omega arith) (omega arith) c.if-line-k.false in
-    (omega arith, refl, at.loop-k.invariant.2, more ∙ at.loop-k.invariant.3)
+    let a = c.args in
+    let more = begins_more a.line.now a.bytes.now c.loop-k.k (omega arith) (omega arith) c.if-line-k.false in
+    (omega arith, refl, c.loop-k.invariant.2, more ∙ c.loop-k.invariant.3)
 
 returns-3 : tie.Need-returns invariant-loop decreases-loop
 returns-3 c = sym (begins_all c.args.line.now _ c.loop-k.k (omega arith)) ∙ c.loop-k.invariant.3

@@ -31,22 +31,19 @@ loop-less c = search rules
 
 loop-again : tie.Need-loop-end-preserved invariant-loop decreases-loop
 loop-again c =
-    let at = c in
-    digit_more _ _ c.loop-end-test.true (sym c.is_digit.ensures ∙ c.if-is_digit.true) ∙ at.loop-end.invariant
+    digit_more _ _ c.loop-end-test.true (sym c.is_digit.ensures ∙ c.if-is_digit.true) ∙ c.loop-end.invariant
 
 returns : tie.Need-returns-else-is_digit invariant-loop decreases-loop
 unfolding digits_end
 returns c =
-    let at = c in
     let none = sym c.is_digit.ensures ∙ c.if-is_digit.false in
-    let bytes = at.args.bytes.now in
-    sym (digit_none bytes at.loop-end.end c.loop-end-test.true none) ∙ at.loop-end.invariant
+    let bytes = c.args.bytes.now in
+    sym (digit_none bytes c.loop-end.end c.loop-end-test.true none) ∙ c.loop-end.invariant
 
 returns-2 : tie.Need-returns invariant-loop decreases-loop
 unfolding digits_end
 returns-2 c =
-    let at = c in
-    sym (digits_past at.args.bytes.now at.loop-end.end c.loop-end-test.false) ∙ at.loop-end.invariant
+    sym (digits_past c.args.bytes.now c.loop-end.end c.loop-end-test.false) ∙ c.loop-end.invariant
 
 pub digits_end_spec : {M : Type 1} → statement M
 digits_end_spec =

@@ -24,8 +24,7 @@ loop-holds c = (omega arith, c.requires.0, zero-le, refl)
 
 mul-value : tie.Need-overflow_mul-value invariant-loop decreases-loop
 mul-value c =
-    let at = c in
-    omega (arith, worth_small (at.loop-k.k - at.args.from) (omega arith))
+    omega (arith, worth_small (c.loop-k.k - c.args.from) (omega arith))
 
 byte-at-requires : tie.Need-byte_at-requires invariant-loop decreases-loop
 byte-at-requires c κs = search rules
@@ -35,8 +34,7 @@ digit-of-requires c κs = search rules
 
 add-value : tie.Need-overflow_add-value invariant-loop decreases-loop
 add-value c =
-    let at = c in
-    omega (arith, worth_small (at.loop-k.k - at.args.from) (omega arith))
+    omega (arith, worth_small (c.loop-k.k - c.args.from) (omega arith))
 
 add-k : tie.Need-overflow_step-k invariant-loop decreases-loop
 add-k c = search rules
@@ -46,22 +44,20 @@ loop-less c = search rules
 
 loop-again : tie.Need-loop-k-preserved invariant-loop decreases-loop
 loop-again c =
-    let at = c in
-    let a = at.args in
-    let k = at.loop-k.k in
-    let v = at.loop-k.value in
+    let a = c.args in
+    let k = c.loop-k.k in
+    let v = c.loop-k.value in
     let digit = c.digit_of.ensures.0 ∙ ap (λ (d : ℕ). d - 48) c.byte_at.ensures in (
       omega arith,
       omega arith,
-      worth_more a.from k v _ at.loop-k.invariant.0 at.loop-k.invariant.2 c.digit_of.ensures.1,
-      value_more a.bytes.now k a.end v _ c.loop-k-test.true digit ∙ at.loop-k.invariant.3,
+      worth_more a.from k v _ c.loop-k.invariant.0 c.loop-k.invariant.2 c.digit_of.ensures.1,
+      value_more a.bytes.now k a.end v _ c.loop-k-test.true digit ∙ c.loop-k.invariant.3,
     )
 
 returns : tie.Need-returns invariant-loop decreases-loop
 returns c =
-    let at = c in
-    let a = at.args in
-    sym (value_all a.bytes.now at.loop-k.k a.end at.loop-k.value c.loop-k-test.false) ∙ at.loop-k.invariant.3
+    let a = c.args in
+    sym (value_all a.bytes.now c.loop-k.k a.end c.loop-k.value c.loop-k-test.false) ∙ c.loop-k.invariant.3
 
 pub number_spec : {M : Type 1} → statement M
 number_spec =

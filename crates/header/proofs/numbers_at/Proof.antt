@@ -9,16 +9,10 @@ use borrow.Author.Rules.{rules}
 use Rattle.header.proofs.numbers_at.Statement.{statement}
 use Rattle.header.proofs.numbers_at.Tie as tie
 
-abbrev space : tie.Then-four_at_most → ℕ
-space c = c.digits_end-space.result
-
-abbrev feed : tie.Then-four_at_most-2 → ℕ
-feed c = c.digits_end-feed.result
-
-first : (c : tie.Then-four_at_most) → four_at_most c.args.bytes.now c.args.from (space c) 32 ≡ true
+first : (c : tie.Then-four_at_most) → four_at_most c.args.bytes.now c.args.from c.digits_end-space.result 32 ≡ true
 first c = sym c.four_at_most.ensures ∙ c.if-four_at_most.true
 
-second : (c : tie.Then-four_at_most-2) → four_at_most c.args.bytes.now (space c.before.before.before + 1) (feed c) 10 ≡ true
+second : (c : tie.Then-four_at_most-2) → four_at_most c.args.bytes.now (c.digits_end-space.result + 1) c.digits_end-feed.result 10 ≡ true
 second c = sym c.four_at_most-then-four_at_most.ensures ∙ c.if-four_at_most-2.true
 
 digits-end-requires : tie.Need-digits_end-space-requires
@@ -48,7 +42,6 @@ number-requires-2 c κs =
 
 add-sized-of : tie.Need-overflow_add-feed
 add-sized-of c =
-    let both = c in
     omega (arith, (four_facts _ _ _ _ (first c.before.before.before.before.before)).1, (four_facts _ _ _ _ (second c.before.before)).1)
 
 sized-of-requires : tie.Need-sized_of-requires
@@ -56,16 +49,13 @@ sized-of-requires c κs = search rules
 
 returns : tie.Need-returns-then-four_at_most-2
 returns c =
-    let both = c in
-    let one = c in
     c.sized_of.ensures
     ∙ rw (c.number.ensures, c.number-then-four_at_most-2.ensures)
-    (both_good _ _ _ one.digits_end-space.ensures (first c.before.before.before.before.before.before) _ both.digits_end-feed.ensures (second c.before.before.before))
+    (both_good _ _ _ c.digits_end-space.ensures (first c.before.before.before.before.before.before) _ c.digits_end-feed.ensures (second c.before.before.before))
 
 returns-2 : tie.Need-returns-else-four_at_most-2
 returns-2 c =
-    let one = c in
-    second_bad _ _ _ one.digits_end-space.ensures (first c.before.before.before) _ c.digits_end-feed.ensures
+    second_bad _ _ _ c.digits_end-space.ensures (first c.before.before.before) _ c.digits_end-feed.ensures
     (sym c.four_at_most-then-four_at_most.ensures ∙ c.if-four_at_most-2.false)
 
 returns-3 : tie.Need-returns-else-four_at_most

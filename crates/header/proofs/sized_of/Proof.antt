@@ -14,14 +14,12 @@ shown-side-requires-2 c κs = search rules
 returns : tie.Need-returns-then-shown_side-2
 unfolding sized
 returns c =
-    let low = c in
-    rw (sym low.shown_side.ensures ∙ low.if-shown_side.true, sym c.shown_side-then-shown_side.ensures ∙ c.if-shown_side-2.true)
+    rw (sym c.shown_side.ensures ∙ c.if-shown_side.true, sym c.shown_side-then-shown_side.ensures ∙ c.if-shown_side-2.true)
 
 returns-2 : tie.Need-returns-else-shown_side-2
 unfolding sized
 returns-2 c =
-    let low = c in
-    rw (sym low.shown_side.ensures ∙ low.if-shown_side.true, sym c.shown_side-then-shown_side.ensures ∙ c.if-shown_side-2.false)
+    rw (sym c.shown_side.ensures ∙ c.if-shown_side.true, sym c.shown_side-then-shown_side.ensures ∙ c.if-shown_side-2.false)
 
 returns-3 : tie.Need-returns-else-shown_side
 unfolding sized

@@ -18,7 +18,6 @@ invariant-loop st out₀ i₀ i-end out i =
 abbrev decreases-loop : tie.decreases-loop-i
 decreases-loop st out₀ i₀ i-end out i = length out₀ - i
 
--- the places that the others follow
 loop-holds : tie.Need-loop-i-init invariant-loop decreases-loop
 loop-holds c = (omega arith, refl, front_none)
 

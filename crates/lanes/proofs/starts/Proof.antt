@@ -15,7 +15,6 @@ invariant-loop st₀ m i₀ st i = (i ≤ m) × Partly (λ j v. Unit) (λ j v. L
 abbrev decreases-loop : tie.decreases-loop-i
 decreases-loop st₀ m i₀ st i = m - i
 
--- the places that the others follow
 loop-holds : tie.Need-loop-i-init invariant-loop decreases-loop
 loop-holds c = (omega arith, record { len = c.requires.1; new = λ j l. absurd (not-suc-le-zero l); old = λ j a b. tt })
 

@@ -18,7 +18,6 @@ invariant-loop e down across from to c k v₀ steps t₀ v t =
 abbrev decreases-loop : tie.decreases-loop-t
 decreases-loop e down across from to c k v₀ steps t₀ v t = steps - t
 
--- the places that the others follow
 start-requires : tie.Need-start-v-requires invariant-loop decreases-loop
 start-requires c κs = search rules
 

@@ -15,7 +15,6 @@ invariant-loop e stride from steps c m st₀ t₀ st t = (t ≤ steps) × Swept 
 abbrev decreases-loop : tie.decreases-loop-t
 decreases-loop e stride from steps c m st₀ t₀ st t = steps - t
 
--- the places that the others follow
 loop-holds : tie.Need-loop-t-init invariant-loop decreases-loop
 loop-holds c = (omega arith, c.requires.4)
 

@@ -23,7 +23,6 @@ invariant-loop e stride from t c m st₀ o i₀ st i =
 abbrev decreases-loop : tie.decreases-loop-i
 decreases-loop e stride from t c m st₀ o i₀ st i = m - i
 
--- the places that the others follow
 add-o : tie.Need-overflow_add-o invariant-loop decreases-loop
 add-o c = search rules
 
@@ -66,9 +65,8 @@ loop-less c = search rules
 
 loop-again : tie.Need-loop-i-preserved invariant-loop decreases-loop
 loop-again c =
-    let lanes = c in
-    let a = lanes.args in
-    let l = lanes.loop-i in
+    let a = c.args in
+    let l = c.loop-i in
     let old = here c.before.before.before in
     let step = c.advanced-v.ensures in
     let next = row_more a.e.now a.stride 1 a.from (a.c + l.i) 2 a.t _ _ _ (omega arith) (omega arith) old step in

@@ -13,7 +13,7 @@ trunc-requires : tie.Need-trunc-j-requires
 trunc-requires c κs = search rules
 
 entry-of-requires : tie.Need-entry_of-requires
-entry-of-requires c κs = let at = c in (omega (arith, at.requires.0), all_counted at.args.d.now _ at.requires.1)
+entry-of-requires c κs = (omega (arith, c.requires.0), all_counted c.args.d.now _ c.requires.1)
 
 returns : tie.Need-returns
 returns c = rw (c.entry_of.ensures, c.trunc-j.ensures)

@@ -50,9 +50,8 @@ loop-less c = search rules
 
 loop-again : tie.Need-loop-i-preserved invariant-loop decreases-loop
 loop-again c =
-    let from = c in
-    let a = from.args in
-    let at = from.loop-i in
+    let a = c.args in
+    let at = c.loop-i in
     let h = at.invariant in
     let next = places_next (is_line a.th a.t.now) at.i (length a.t.now) (omega arith) in
     let flag = sym c.is_line.ensures in

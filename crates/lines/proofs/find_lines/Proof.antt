@@ -8,10 +8,6 @@ use borrow.Author.Rules.{rules}
 use Rattle.lines.proofs.find_lines.Statement.{statement}
 use Rattle.lines.proofs.find_lines.Tie as tie
 
--- the places that the others follow, and the list
-abbrev list : tie.After-smooth_into → List ℕ
-list c = c.args.s.now
-
 smooth-into-requires : tie.Need-smooth_into-requires
 smooth-into-requires c κs = search rules
 
@@ -29,11 +25,10 @@ part-collect-lines-end c = search rules
 
 collect-lines-requires : tie.Need-collect_lines-requires
 collect-lines-requires c κs =
-    let at = c in
-    let s = list c.before.before.before.before.before in
+    let s = c.args.s.now in
     let len = length_smooth s in
-    let asked = at.requires in
-    rw (smooth_part s at.smooth_into.ensures)
+    let asked = c.requires in
+    rw (smooth_part s c.smooth_into.ensures)
     (omega (arith, len, asked), omega (arith, largest_smooth s, asked), omega (arith, len, asked))
 
 same_length : tie.Need-shape_of-t
@@ -45,11 +40,8 @@ same-length-2 c = search rules
 returns : tie.Need-returns
 unfolding lines_of
 returns c =
-    let collected = c in
-    let threshold = c in
-    let at = c in
-    let smoothed = smooth_part (list c.before.before.before.before.before.before.before.before) at.smooth_into.ensures in
-    rw (← threshold.line_threshold-th.ensures) (rw smoothed at collected.collect_lines.ensures)
+    let smoothed = smooth_part c.args.s.now c.smooth_into.ensures in
+    rw (← c.line_threshold-th.ensures) (rw smoothed at c.collect_lines.ensures)
 
 pub find_lines_spec : {M : Type 1} → statement M
 find_lines_spec =

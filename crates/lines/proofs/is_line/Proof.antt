@@ -14,7 +14,7 @@ shared-slice-read-v : tie.Need-bounds-t-i
 shared-slice-read-v c = search rules
 
 int-to-float-if1 : tie.Need-int_to_float-v
-int-to-float-if1 c = let at = c in in_float_lem (omega (arith, at.requires.1, largest_at at.args.t.now at.args.i))
+int-to-float-if1 c = in_float_lem (omega (arith, c.requires.1, largest_at c.args.t.now c.args.i))
 
 seven-before-requires : tie.Need-seven_before-requires
 seven-before-requires c κs = search rules
@@ -32,9 +32,7 @@ stands-out-requires c κs =
 returns : tie.Need-returns-then-v-th
 unfolding is_line
 returns c =
-    let behind = c in
-    let before = c in
-    rw (before.if-v-th.true, c.stands_out.ensures, before.seven_before.ensures, behind.seven_behind.ensures)
+    rw (c.if-v-th.true, c.stands_out.ensures, c.seven_before.ensures, c.seven_behind.ensures)
 
 returns-2 : tie.Need-returns
 unfolding is_line

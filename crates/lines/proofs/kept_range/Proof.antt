@@ -25,10 +25,9 @@ part-last-kept-end c = search rules
 
 last-kept-requires : tie.Need-last_kept-kept-requires
 last-kept-requires c κs =
-    let at = c in
-    let l = at.args.lines.now in
+    let l = c.args.lines.now in
     let from = c.first_kept-from.result in
-    (omega (arith, largest_take (length l - from) (drop from l), largest_drop from l, at.requires), at.requires.1)
+    (omega (arith, largest_take (length l - from) (drop from l), largest_drop from l, c.requires), c.requires.1)
 
 add-t5 : tie.Need-overflow_add-result
 add-t5 c = search rules

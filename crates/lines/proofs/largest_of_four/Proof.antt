@@ -54,15 +54,13 @@ larger-score-requires-2 c κs =
 
 larger-score-requires-3 : tie.Need-larger_score-requires-3
 larger-score-requires-3 c κs =
-    let read = c in
-    let at = read.args.at in
+    let at = c.args.at in
     let low = score c.before.before in
     (low at, omega (arith, c.larger_score-2.ensures, c.larger_score.ensures, low (at + 1), low (at + 2), low (at + 3)))
 
 returns : tie.Need-returns
 returns c =
-    let at = c in
-    let four = largest-four at.args.s.now at.args.at at.requires.0 in
+    let four = largest-four c.args.s.now c.args.at c.requires.0 in
     rw (four, c.larger_score-3.ensures, c.larger_score-2.ensures, c.larger_score.ensures)
 
 pub largest_of_four_spec : {M : Type 1} → statement M

@@ -12,9 +12,8 @@ use borrow.Author.Rules.{rules}
 use Rattle.lines.proofs.line_threshold.Statement.{statement}
 use Rattle.lines.proofs.line_threshold.Tie as tie
 
--- the places that the others follow
 all : (c : tie.After-trunc-j) → let s = c.args.s.now in (length s ≤ 2 ^ 24) × (count_at_most self 4096 s ≡ length s)
-all c = let at = c in (omega (arith, at.requires.longest), all_counted at.args.s.now 4096 at.requires.entries)
+all c = (omega (arith, c.requires.longest), all_counted c.args.s.now 4096 c.requires.entries)
 
 low : (c : tie.After-trunc-j) (j : ℕ) → entry self 0 c.args.s.now j ≤ 2 ^ 24
 low c j = entry_le _ _ j (omega (arith, c.requires.entries))
@@ -35,16 +34,15 @@ entry-of-requires-2 : tie.Need-entry_of-last-requires
 entry-of-requires-2 c κs = all c.before
 
 int-to-float-result : tie.Need-int_to_float-result
-int-to-float-result c = let at = c in in_float_lem (rw at.entry_of-high.ensures (low c.before.before.before _))
+int-to-float-result c = in_float_lem (rw c.entry_of-high.ensures (low c.before.before.before _))
 
 int-to-float-result-2 : tie.Need-int_to_float-result-2
-int-to-float-result-2 c = let at = c in in_float_lem (rw at.entry_of-last.ensures (low c.before.before.before.before _))
+int-to-float-result-2 c = in_float_lem (rw c.entry_of-last.ensures (low c.before.before.before.before _))
 
 returns : tie.Need-returns
 unfolding line_threshold
 returns c =
-    let at = c in
-    rw (at.entry_of-high.ensures, at.entry_of-last.ensures, at.trunc-j.ensures)
+    rw (c.entry_of-high.ensures, c.entry_of-last.ensures, c.trunc-j.ensures)
 
 pub line_threshold_spec : {M : Type 1} → statement M
 line_threshold_spec =

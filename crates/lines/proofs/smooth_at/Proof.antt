@@ -9,13 +9,11 @@ use Rattle.lines.proofs.smooth_at.Tie as tie
 
 low-before : (c : tie.After-largest_of_four-2) → c.largest_of_four.result ≤ 4096
 low-before c =
-    let at = c in
-    omega (arith, c.largest_of_four.ensures, largest_part 4 (at.args.i - 4) at.args.s.now, at.requires.2)
+    omega (arith, c.largest_of_four.ensures, largest_part 4 (c.args.i - 4) c.args.s.now, c.requires.2)
 
 low-after : (c : tie.After-largest_of_four-2) → c.largest_of_four-2.result ≤ 4096
 low-after c =
-    let at = c in
-    omega (arith, c.largest_of_four-2.ensures, largest_part 4 (at.args.i + 1) at.args.s.now, at.requires.2)
+    omega (arith, c.largest_of_four-2.ensures, largest_part 4 (c.args.i + 1) c.args.s.now, c.requires.2)
 
 mul-larger-score : tie.Need-offset_bounds-s-i
 mul-larger-score c = search rules
@@ -39,11 +37,10 @@ smaller-score-requires : tie.Need-smaller_score-requires
 smaller-score-requires c κs = (low-before c, low-after c)
 
 larger-score-requires : tie.Need-larger_score-requires
-larger-score-requires c κs =
-    let at = c in (
-      omega (arith, largest_at at.args.s.now at.args.i, at.requires.2),
-      omega (arith, c.smaller_score.ensures, low-before c.before, low-after c.before),
-    )
+larger-score-requires c κs = (
+  omega (arith, largest_at c.args.s.now c.args.i, c.requires.2),
+  omega (arith, c.smaller_score.ensures, low-before c.before, low-after c.before),
+)
 
 returns : tie.Need-returns
 returns c =

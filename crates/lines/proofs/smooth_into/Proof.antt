@@ -20,12 +20,8 @@ invariant-loop s t₀ end i₀ t i = (4 ≤ i) × (i ≤ max 4 (length s - 4)) �
 abbrev decreases-loop : tie.decreases-loop-i
 decreases-loop s t₀ end i₀ t i = length s - i
 
--- the places that the others follow, and the list
-abbrev list : tie.After-copy_u32 invariant-loop decreases-loop → List ℕ
-list c = c.args.s.now
-
-copied : (c : tie.After-copy_u32 invariant-loop decreases-loop) → AtFront (list c) c.args.t.now c.copy_u32.new.to
-copied c = rw (take-length (list c)) at c.copy_u32.ensures
+copied : (c : tie.After-copy_u32 invariant-loop decreases-loop) → AtFront c.args.s.now c.args.t.now c.copy_u32.new.to
+copied c = rw (take-length c.args.s.now) at c.copy_u32.ensures
 
 copy-u32-requires : tie.Need-copy_u32-requires invariant-loop decreases-loop
 copy-u32-requires c κs = search rules
@@ -35,8 +31,7 @@ sub-end c = search rules
 
 loop-holds : tie.Need-loop-i-init invariant-loop decreases-loop
 loop-holds c =
-    let at = c in
-    (omega arith, omega arith, refl, smooth_begun (list c.before.before) (copied c.before.before) at.requires.0)
+    (omega arith, omega arith, refl, smooth_begun c.args.s.now (copied c.before.before) c.requires.0)
 
 smooth-at-requires : tie.Need-smooth_at-requires invariant-loop decreases-loop
 smooth-at-requires c κs = search rules
@@ -55,9 +50,8 @@ loop-less c = search rules
 
 loop-again : tie.Need-loop-i-preserved invariant-loop decreases-loop
 loop-again c =
-    let at = c in
-    let i = at.loop-i.invariant in
-    (omega arith, omega arith, i.2, front_more (smoothed (list c.before.before.before.before.before)) at.loop-i.i i.3 (omega arith) c.smooth_at.ensures)
+    let i = c.loop-i.invariant in
+    (omega arith, omega arith, i.2, front_more (smoothed c.args.s.now) c.loop-i.i i.3 (omega arith) c.smooth_at.ensures)
 
 same_length : tie.Need-shape_of-t invariant-loop decreases-loop
 same_length c = search rules
@@ -65,8 +59,7 @@ same_length c = search rules
 returns : tie.Need-returns invariant-loop decreases-loop
 returns c =
     let i = c.loop-i.invariant in
-    let at = c in
-    smooth_ended (list c.before.before.before.before) (copied c.before.before.before.before) i.3 i.0 (omega arith) (omega arith)
+    smooth_ended c.args.s.now (copied c.before.before.before.before) i.3 i.0 (omega arith) (omega arith)
 
 pub smooth_into_spec : {M : Type 1} → statement M
 smooth_into_spec =

@@ -10,7 +10,6 @@ use borrow.Author.Rules.{rules}
 use Rattle.lines.proofs.stands_out.Statement.{statement}
 use Rattle.lines.proofs.stands_out.Tie as tie
 
--- the places that the others follow
 passed : (c : tie.Else-largest_of-v) → leb (largest c.args.a.now) c.args.v ≡ true
 passed c = le-leb _ _ (rw c.largest_of.ensures at c.if-largest_of-v.false)
 
@@ -33,16 +32,14 @@ count-equal-requires-2 : tie.Need-count_equal-requires-2
 count-equal-requires-2 c κs = search rules
 
 balanced-requires : tie.Need-balanced-requires
-balanced-requires c κs =
-    let at = c in (
-      omega (arith, c.count_equal.ensures, count_le (λ x. eqb x at.args.v) at.args.a.now),
-      omega (arith, c.count_equal-2.ensures, count_le (λ x. eqb x at.args.v) at.args.b.now),
-    )
+balanced-requires c κs = (
+  omega (arith, c.count_equal.ensures, count_le (λ x. eqb x c.args.v) c.args.a.now),
+  omega (arith, c.count_equal-2.ensures, count_le (λ x. eqb x c.args.v) c.args.b.now),
+)
 
 returns-3 : tie.Need-returns
 returns-3 c =
-    let test = c in
-    let behind = le-leb _ _ (rw test.largest_of-2.ensures at test.if-largest_of-v-2.false) in
+    let behind = le-leb _ _ (rw c.largest_of-2.ensures at c.if-largest_of-v-2.false) in
     let few = c.count_equal.ensures in
     rw (passed c.before.before.before.before.before, behind, c.balanced.ensures, few, c.count_equal-2.ensures)
 

@@ -58,11 +58,10 @@ loop-less c = search rules
 
 loop-again : tie.Need-loop-k-preserved invariant-loop decreases-loop
 loop-again c =
-    let from = c in
-    let at = from.loop-k in
+    let at = c.loop-k in
     let i = at.invariant in
     let g = c.gap-g.result in
-    let l = from.args.lines.now in
+    let l = c.args.lines.now in
     let next = wide_next at.k g l (omega arith) (omega arith) c.gap-g.ensures in
     ⊎_elim
     (λ w. (

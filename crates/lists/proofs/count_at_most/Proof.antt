@@ -45,9 +45,10 @@ loop-less c = search rules
 
 loop-again : tie.Need-loop-k-preserved invariant-loop decreases-loop
 loop-again c =
+    let past = c.before.before.before in
     let a = c.before.before.before.before.before.args in
-    let k = c.before.before.before.loop-k.k in
-    let i = c.before.before.before.loop-k.invariant in
+    let k = past.loop-k.k in
+    let i = past.loop-k.invariant in
     let one = c.one_at_most-n.ensures in
     let next = count_next (λ x. leb x a.v) a.s.now k 0 (omega arith) in
     (omega arith, omega (arith, one, count_le (λ x. leb x a.v) (get_or a.s.now k 0 ∷ [])), i.2, omega (arith, i.3, one, next))

@@ -18,7 +18,6 @@ invariant-loop height width pixels planes₀ n i₀ planes i = (i ≤ n) × Laid
 abbrev decreases-loop : tie.decreases-loop-i
 decreases-loop height width pixels planes₀ n i₀ planes i = n - i
 
--- the places that the others follow
 mul-n : tie.Need-overflow_mul-n invariant-loop decreases-loop
 mul-n c = search rules
 
@@ -84,16 +83,14 @@ loop-less c = search rules
 
 loop-again : tie.Need-loop-i-preserved invariant-loop decreases-loop
 loop-again c =
-    let read = c in
-    let at = c in
-    let a = at.args in
-    let pixel = read.pixel-v.ensures in
+    let a = c.args in
+    let pixel = c.pixel-v.ensures in
     let value = value_is most_byte a.height a.width a.pixels.now in (
       omega arith,
-      laid_more nan _ _ at.loop-i.invariant.1 read.loop-i-test.true at.requires.1.1
-          (c.level.ensures ∙ value 0 at.loop-i.i _ _ pixel.red_in (omega arith))
-          (c.level-in-loop-i.ensures ∙ value 1 at.loop-i.i _ _ pixel.green_in (omega arith))
-          (c.level-in-loop-i-2.ensures ∙ value 2 at.loop-i.i _ _ pixel.blue_in (omega arith)),
+      laid_more nan _ _ c.loop-i.invariant.1 c.loop-i-test.true c.requires.1.1
+          (c.level.ensures ∙ value 0 c.loop-i.i _ _ pixel.red_in (omega arith))
+          (c.level-in-loop-i.ensures ∙ value 1 c.loop-i.i _ _ pixel.green_in (omega arith))
+          (c.level-in-loop-i-2.ensures ∙ value 2 c.loop-i.i _ _ pixel.blue_in (omega arith)),
     )
 
 same_length : tie.Need-shape_of-planes invariant-loop decreases-loop
@@ -101,9 +98,8 @@ same_length c = c.loop-i.invariant.1.len
 
 returns : tie.Need-returns invariant-loop decreases-loop
 returns c =
-    let s = c in
-    let e : c.loop-i.i ≡ s.args.height * s.args.width = omega arith in
-    laid_all nan _ _ (rw e at c.loop-i.invariant.1) s.requires.1.1
+    let e : c.loop-i.i ≡ c.args.height * c.args.width = omega arith in
+    laid_all nan _ _ (rw e at c.loop-i.invariant.1) c.requires.1.1
 
 pub load_planes_spec : {M : Type 1} → statement M
 load_planes_spec =

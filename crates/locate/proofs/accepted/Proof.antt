@@ -26,8 +26,7 @@ cast-t12 c = search rules
 
 returns : tie.Need-returns
 returns c =
-    let with = c in
-    rw (with.with_reading-board.ensures, with.spacing.ensures, with.spacing-2.ensures)
+    rw (c.with_reading-board.ensures, c.spacing.ensures, c.spacing-2.ensures)
 
 pub accepted_spec : {M : Type 1} → statement M
 accepted_spec =

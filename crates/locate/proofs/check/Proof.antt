@@ -26,8 +26,7 @@ planes-answer-requires c κs = search rules
 returns-2 : tie.Need-returns
 returns-2 c =
     let short = c.slices_short-short.ensures in
-    let located = c in
-    rw (sym located.factor_outside.ensures ∙ located.if-factor_outside.false, ← located.least_located-least.ensures)
+    rw (sym c.factor_outside.ensures ∙ c.if-factor_outside.false, ← c.least_located-least.ensures)
     (c.planes_answer.ensures ∙ answer_same _ _ _ _ _ _ (λ e. short e ∙ short_same _ _ (lent _ _ _ _ _ _)))
 
 pub check_spec : {M : Type 1} → statement M

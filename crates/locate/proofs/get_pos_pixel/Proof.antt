@@ -15,30 +15,23 @@ use borrow.Author.Rules.{rules}
 use Rattle.locate.proofs.get_pos_pixel.Statement.{statement}
 use Rattle.locate.proofs.get_pos_pixel.Tie as tie
 
--- after the checks: what was handed in
-abbrev board : tie.After-check-answer → Board
-board c = c.args.b
-
-abbrev factor : tie.After-check-answer → ℕ
-factor c = c.args.factor
-
 abbrev slices : tie.After-check-answer → Lent
 slices c =
     let a = c.args in
     lent a.planes.now a.edges.now a.scores.now a.scratch_f32.now a.scratch_u8.now a.scratch_u32.now
 
 -- the checks passed
-passed : (c : tie.Else-answer-ne0) → checked (board c.before) (factor c.before) (slices c.before) ≡ 0
+passed : (c : tie.Else-answer-ne0) → checked c.args.b c.args.factor (slices c.before) ≡ 0
 passed c = sym c.check-answer.ensures ∙ c.if-answer-ne0.false
 
-factor_in : (c : tie.Else-answer-ne0) → FactorIn (factor c.before)
-factor_in c = (fit (board c.before) (factor c.before) (slices c.before) (passed c)).0
+factor_in : (c : tie.Else-answer-ne0) → FactorIn c.args.factor
+factor_in c = (fit c.args.b c.args.factor (slices c.before) (passed c)).0
 
-fits : (c : tie.Else-answer-ne0) → let at = c in FitPlanes (least_located (factor c.before)) (board c.before).height (board c.before).width (slices c.before).planes
-fits c = (fit (board c.before) (factor c.before) (slices c.before) (passed c)).1
+fits : (c : tie.Else-answer-ne0) → FitPlanes (least_located c.args.factor) c.args.b.height c.args.b.width (slices c.before).planes
+fits c = (fit c.args.b c.args.factor (slices c.before) (passed c)).1
 
-room : (c : tie.Else-answer-ne0) → NoneShort (board c.before).height (board c.before).width (slices c.before)
-room c = (fit (board c.before) (factor c.before) (slices c.before) (passed c)).2
+room : (c : tie.Else-answer-ne0) → NoneShort c.args.b.height c.args.b.width (slices c.before)
+room c = (fit c.args.b c.args.factor (slices c.before) (passed c)).2
 
 check-requires : tie.Need-check-answer-requires
 check-requires c κs = search rules
@@ -66,8 +59,7 @@ same-length-6 c = search rules
 
 returns : tie.Need-returns-then-answer-ne0
 returns c =
-    let at = c in
-    refuses (board c.before.before) (factor c.before.before) (slices c.before.before) _ at.check-answer.ensures c.if-answer-ne0.true c.declined.ensures
+    refuses c.args.b c.args.factor (slices c.before.before) _ c.check-answer.ensures c.if-answer-ne0.true c.declined.ensures
 
 mul-n : tie.Need-overflow_mul-n
 mul-n c = omega (arith, (fits c.before).sides.area)
@@ -83,7 +75,6 @@ slice-relend-prefix-work c = omega (arith, (room c.before.before.before.before.b
 
 slice-aggregate-work : tie.Need-slice_bounds-work-end-2
 slice-aggregate-work c =
-    let at = c in
     sym (length-take-le _ _ (omega (arith, (room c.before.before.before.before.before.before).f32_in)))
 
 slice-relend-prefix-work-2 : tie.Need-slice_bounds-work-end-3
@@ -91,7 +82,6 @@ slice-relend-prefix-work-2 c = omega (arith, (room c.before.before.before.before
 
 slice-aggregate-work-2 : tie.Need-slice_bounds-work-end-4
 slice-aggregate-work-2 c =
-    let at = c in
     sym (length-take-le _ _ (omega (arith, (room c.before.before.before.before.before.before.before).u8_in)))
 
 slice-relend-prefix-work-3 : tie.Need-slice_bounds-work-end-5
@@ -99,14 +89,13 @@ slice-relend-prefix-work-3 c = omega (arith, (room c.before.before.before.before
 
 slice-aggregate-work-3 : tie.Need-slice_bounds-work-end-6
 slice-aggregate-work-3 c =
-    let at = c in
     sym (length-take-le _ _ (omega (arith, (room c.before.before.before.before.before.before.before.before).u32_in)))
 
 work-requires : tie.Need-work-requires
 work-requires c κs =
-    let at = c in
-    let r = room c.before.before.before.before.before.before.before.before in (
-      (factor_in c.before.before.before.before.before.before.before.before, fits c.before.before.before.before.before.before.before.before),
+    let past = c.before.before.before.before.before.before.before.before in
+    let r = room past in (
+      (factor_in past, fits past),
       record {
         edges_in = r.edges_in;
         scores_in = r.scores_in;
@@ -136,12 +125,11 @@ same-length-12 c = search rules
 
 returns-2 : tie.Need-returns
 returns-2 c =
-    let done = c in
-    let at = c in
-    let r = room c.before.before.before.before.before.before.before.before.before.before.before.before.before.before.before.before.before.before.before.before.before in
-    let after = done.work.new in
-    let same = done.work.auto in
-    accepts (board c.before.before.before.before.before.before.before.before.before.before.before.before.before.before.before.before.before.before.before.before.before.before) (factor c.before.before.before.before.before.before.before.before.before.before.before.before.before.before.before.before.before.before.before.before.before.before) (slices c.before.before.before.before.before.before.before.before.before.before.before.before.before.before.before.before.before.before.before.before.before.before) _ _ _ (passed c.before.before.before.before.before.before.before.before.before.before.before.before.before.before.before.before.before.before.before.before.before) done.work.ensures
+    let past = c.before.before.before.before.before.before.before.before.before.before.before.before.before.before.before.before.before.before.before.before.before in
+    let r = room past in
+    let after = c.work.new in
+    let same = c.work.auto in
+    accepts c.args.b c.args.factor (slices c.before.before.before.before.before.before.before.before.before.before.before.before.before.before.before.before.before.before.before.before.before.before) _ _ _ (passed past) c.work.ensures
     refl refl refl refl refl refl
     (record {
       f32_kept = drop_at after.scratch_f32 _ _ (same.scratch_f32 ∙ length-take-le _ _ r.f32_in);

@@ -26,9 +26,8 @@ enum-known-rows-2 c = search rules
 
 accepted-requires : tie.Need-accepted-requires
 accepted-requires c κs =
-    let start = c in
-    let columns = rw c.in-Read.is at start.requires.0 in
-    let rows = rw c.in-Read-rows.is at start.requires.1 in
+    let columns = rw c.in-Read.is at c.requires.0 in
+    let rows = rw c.in-Read-rows.is at c.requires.1 in
     (columns.0, columns.1, rows.0, rows.1)
 
 returns : tie.Need-returns-in-Refused

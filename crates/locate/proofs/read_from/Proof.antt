@@ -11,7 +11,6 @@ use borrow.Author.Rules.{rules}
 use Rattle.locate.proofs.read_from.Statement.{statement}
 use Rattle.locate.proofs.read_from.Tie as tie
 
--- the places that the others follow
 abbrev ScorableOn : tie.Start → Bounds → Type 0
 ScorableOn s bounds =
     let l = s.args.l in
@@ -50,20 +49,18 @@ slice-aggregate-read-axes c = sym (picture_length c.requires)
 
 read-axes-requires : tie.Need-read_axes-axes-requires
 read-axes-requires c κs =
-    let at = c in
-    let g = at.requires in
-    (rw at.widen-wide.ensures (scorable g), rw at.widen-wide.ensures (room_for g))
+    let g = c.requires in
+    (rw c.widen-wide.ensures (scorable g), rw c.widen-wide.ensures (room_for g))
 
 resized-requires : tie.Need-resized-requires
 resized-requires c κs = search rules
 
 joined-requires : tie.Need-joined-requires
 joined-requires c κs =
-    let read = c in
-    let at = c in
-    let is = read.read_axes-axes.ensures in (
-      rw is.columns_are (quarters_fit _ (across_fit _ _ is.scores_are (can-score c.before.before.before.before.before.before.before.before.before.before.before))),
-      rw is.rows_are (quarters_fit _ (down_fit _ _ is.scores_are (can-score c.before.before.before.before.before.before.before.before.before.before.before))),
+    let past = c.before.before.before.before.before.before.before.before.before.before.before in
+    let is = c.read_axes-axes.ensures in (
+      rw is.columns_are (quarters_fit _ (across_fit _ _ is.scores_are (can-score past))),
+      rw is.rows_are (quarters_fit _ (down_fit _ _ is.scores_are (can-score past))),
     )
 
 same_length : tie.Need-shape_of-scores
@@ -77,9 +74,8 @@ same-length-3 c = search rules
 
 returns : tie.Need-returns
 returns c =
-    let read = c in
-    let is = read.read_axes-axes.ensures in
-    let wide = read.widen-wide.ensures in
+    let is = c.read_axes-axes.ensures in
+    let wide = c.widen-wide.ensures in
     record {
       located_is = rw (c.resized.ensures, is.columns_are, is.rows_are, wide) at c.joined.ensures;
       scores_are = rw wide at is.scores_are;

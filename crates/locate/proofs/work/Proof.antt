@@ -13,34 +13,27 @@ use borrow.Author.Rules.{rules}
 use Rattle.locate.proofs.work.Statement.{statement}
 use Rattle.locate.proofs.work.Tie as tie
 
--- the places that the others follow
-abbrev board : tie.After-last_picture-l → Board
-board c = c.args.b
-
-abbrev factor : tie.After-last_picture-l → ℕ
-factor c = c.args.factor
-
 abbrev slices : tie.After-last_picture-l → Lent
 slices c =
     let a = c.args in
     lent a.planes.now a.edges.now a.scores.now a.scratch_f32.now a.scratch_u8.now a.scratch_u32.now
 
-factor_in : (c : tie.After-last_picture-l) → FactorIn (factor c)
+factor_in : (c : tie.After-last_picture-l) → FactorIn c.args.factor
 factor_in c = c.requires.0.0
 
-fits : (c : tie.After-last_picture-l) → FitPlanes (least_located (factor c)) (board c).height (board c).width (slices c).planes
+fits : (c : tie.After-last_picture-l) → FitPlanes (least_located c.args.factor) c.args.b.height c.args.b.width (slices c).planes
 fits c = c.requires.0.1
 
-room : (c : tie.After-last_picture-l) → NoneShort (board c).height (board c).width (slices c)
+room : (c : tie.After-last_picture-l) → NoneShort c.args.b.height c.args.b.width (slices c)
 room c = c.requires.1
 
 narrows : (c : tie.After-last_picture-l)
-    → Narrows (board c).height (board c).width (last_of (factor c) (board c).height (board c).width (slices c).planes)
+    → Narrows c.args.b.height c.args.b.width (last_of c.args.factor c.args.b.height c.args.b.width (slices c).planes)
     c.last_picture-l.result c.last_picture-l.new.planes c.last_picture-l.new.scratch
 narrows c = c.last_picture-l.ensures.0
 
 edged : (c : tie.After-last_picture-l)
-    → AtFront (edges_at (last_of (factor c) (board c).height (board c).width (slices c).planes).stage) (slices c).edges
+    → AtFront (edges_at (last_of c.args.factor c.args.b.height c.args.b.width (slices c).planes).stage) (slices c).edges
     c.last_picture-l.new.edges
 edged c = c.last_picture-l.ensures.1
 
@@ -66,16 +59,15 @@ same-length-3 c = search rules
 
 returns : tie.Need-returns-then-l
 returns c =
-    let at = c in
-    works_small (board c.before.before.before.before.before.before.before.before.before) (factor c.before.before.before.before.before.before.before.before.before) (slices c.before.before.before.before.before.before.before.before.before) (factor_in c.before.before.before.before.before.before.before.before.before) (fits c.before.before.before.before.before.before.before.before.before) (room c.before.before.before.before.before.before.before.before.before) (narrows c.before.before.before.before.before.before.before.before.before) (edged c.before.before.before.before.before.before.before.before.before) _ _ _
+    let past = c.before.before.before.before.before.before.before.before.before in
+    works_small c.args.b c.args.factor (slices past) (factor_in past) (fits past) (room past) (narrows past) (edged past) _ _ _
     c.if-l.true
     (rw c.resized.ensures at c.declined.ensures)
 
 read-from-requires : tie.Need-read_from-requires
 read-from-requires c κs =
-    let other = c in
-    let at = c in
-    leads (board c.before.before.before.before.before.before.before.before.before.before) (factor c.before.before.before.before.before.before.before.before.before.before) (slices c.before.before.before.before.before.before.before.before.before.before) (factor_in c.before.before.before.before.before.before.before.before.before.before) (fits c.before.before.before.before.before.before.before.before.before.before) (room c.before.before.before.before.before.before.before.before.before.before) (narrows c.before.before.before.before.before.before.before.before.before.before) (edged c.before.before.before.before.before.before.before.before.before.before) other.if-l.false
+    let past = c.before.before.before.before.before.before.before.before.before.before in
+    leads c.args.b c.args.factor (slices past) (factor_in past) (fits past) (room past) (narrows past) (edged past) c.if-l.false
 
 same-length-4 : tie.Need-shape_of-planes
 same-length-4 c = search rules
@@ -97,10 +89,9 @@ same-length-9 c = search rules
 
 returns-2 : tie.Need-returns
 returns-2 c =
-    let read = c in
-    let at = c in
-    works_read (board c.before.before.before.before.before.before.before.before.before.before.before.before.before.before.before.before.before) (factor c.before.before.before.before.before.before.before.before.before.before.before.before.before.before.before.before.before) (slices c.before.before.before.before.before.before.before.before.before.before.before.before.before.before.before.before.before) (factor_in c.before.before.before.before.before.before.before.before.before.before.before.before.before.before.before.before.before) (fits c.before.before.before.before.before.before.before.before.before.before.before.before.before.before.before.before.before) (room c.before.before.before.before.before.before.before.before.before.before.before.before.before.before.before.before.before) (narrows c.before.before.before.before.before.before.before.before.before.before.before.before.before.before.before.before.before) (edged c.before.before.before.before.before.before.before.before.before.before.before.before.before.before.before.before.before)
-    read.if-l.false _ _ _ read.read_from.ensures
+    let past = c.before.before.before.before.before.before.before.before.before.before.before.before.before.before.before.before.before in
+    works_read c.args.b c.args.factor (slices past) (factor_in past) (fits past) (room past) (narrows past) (edged past)
+    c.if-l.false _ _ _ c.read_from.ensures
 
 pub work_spec : {M : Type 1} → statement M
 work_spec =

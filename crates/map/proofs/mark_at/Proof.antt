@@ -11,7 +11,6 @@ use borrow.Author.Rules.{rules}
 use Rattle.map.proofs.mark_at.Statement.{statement}
 use Rattle.map.proofs.mark_at.Tie as tie
 
--- a place of the picture, and its value among the planes
 abbrev place_of : tie.Else-b-j → ℕ
 place_of c = let a = c.args in a.b.height * a.b.width + (a.i * a.b.width + a.j)
 
@@ -46,14 +45,13 @@ mul-green-level-3 c = omega (arith, in-planes c.before.before, c.requires.there)
 
 shared-slice-read-green-level : tie.Need-bounds-planes-b
 shared-slice-read-green-level c =
-    let at = c in
-    omega (arith, in-planes c.before.before.before, at.requires.there)
+    omega (arith, in-planes c.before.before.before, c.requires.there)
 
 green-level-requires : tie.Need-green_level-requires
 green-level-requires c κs =
-    let at = c in
-    let fit = at.requires in
-    unit_below _ _ (place_of c.before.before.before) fit.there fit.units (in-planes c.before.before.before)
+    let past = c.before.before.before in
+    let fit = c.requires in
+    unit_below _ _ (place_of past) fit.there fit.units (in-planes past)
 
 mark-of-requires : tie.Need-mark_of-requires
 mark-of-requires c κs = search rules
@@ -61,9 +59,8 @@ mark-of-requires c κs = search rules
 returns-3 : tie.Need-returns
 unfolding mark_at
 returns-3 c =
-    let at = c in
-    let b = at.args.b in
-    rw (lt-ltb _ _ at.if-b-i.false, lt-ltb _ _ at.if-b-j.false, one-mul (b.height * b.width))
+    let b = c.args.b in
+    rw (lt-ltb _ _ c.if-b-i.false, lt-ltb _ _ c.if-b-j.false, one-mul (b.height * b.width))
     (c.mark_of.ensures ∙ ap mark_of c.green_level.ensures)
 
 pub mark_at_spec : {M : Type 1} → statement M

@@ -22,19 +22,17 @@ returns-3 : tie.Need-returns-then-room-text_length
 unfolding print_answer
 returns-3 c =
     λ planes.
-    let wide = c in
-    let b = wide.args.b in
-    let n = text_length_lem b planes wide.if-b-gt-LINE_WIDTH.false ∙ sym c.text_length.ensures in
-    rw (le-ltb _ _ wide.if-b-gt-LINE_WIDTH.false, le-ltb _ _ c.if-b-gt-MOST_ROWS.false, n, lt-ltb _ _ c.if-room-text_length.true)
+    let b = c.args.b in
+    let n = text_length_lem b planes c.if-b-gt-LINE_WIDTH.false ∙ sym c.text_length.ensures in
+    rw (le-ltb _ _ c.if-b-gt-LINE_WIDTH.false, le-ltb _ _ c.if-b-gt-MOST_ROWS.false, n, lt-ltb _ _ c.if-room-text_length.true)
 
 returns-4 : tie.Need-returns
 unfolding print_answer
 returns-4 c =
     λ planes.
-    let wide = c in
-    let b = wide.args.b in
-    let n = text_length_lem b planes wide.if-b-gt-LINE_WIDTH.false ∙ sym c.text_length.ensures in
-    rw (le-ltb _ _ wide.if-b-gt-LINE_WIDTH.false, le-ltb _ _ c.if-b-gt-MOST_ROWS.false, n, le-ltb _ _ c.if-room-text_length.false)
+    let b = c.args.b in
+    let n = text_length_lem b planes c.if-b-gt-LINE_WIDTH.false ∙ sym c.text_length.ensures in
+    rw (le-ltb _ _ c.if-b-gt-LINE_WIDTH.false, le-ltb _ _ c.if-b-gt-MOST_ROWS.false, n, le-ltb _ _ c.if-room-text_length.false)
 
 pub print_answer_spec : {M : Type 1} → statement M
 print_answer_spec = tie.close (tie.spec returns returns-2 text-length-requires returns-3 returns-4)

@@ -26,8 +26,7 @@ same_length c = search rules
 
 returns-2 : tie.Need-returns
 returns-2 c =
-    let put = c in
-    let text = put.put_map-length.ensures in
+    let text = c.put_map-length.ensures in
     printed _ _ _ _ _ (accepted c.before.before.before.before) text.0 text.1
 
 pub print_map_spec : {M : Type 1} → statement M

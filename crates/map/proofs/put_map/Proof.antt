@@ -14,7 +14,6 @@ use borrow.Author.Rules.{rules}
 use Rattle.map.proofs.put_map.Statement.{statement}
 use Rattle.map.proofs.put_map.Tie as tie
 
--- the places that the others follow: the start, the names, the counts
 whole : (c : tie.Start) → let b = c.args.b in
     13 + (length (numbers_line (b.r ∷ b.c ∷ [])) + b.r * (line_width + 1)) ≤ length c.args.out.now
 whole c = omega (arith, c.requires.1, text_length_lem c.args.b c.args.planes.now c.requires.0.columns_in)
@@ -27,18 +26,14 @@ slice-aggregate-put-numbers c = search rules
 
 put-numbers-requires : tie.Need-put_numbers-next-requires
 put-numbers-requires c κs =
-    let names = c in
-    let put = names.put_bytes-next.ensures in
+    let put = c.put_bytes-next.ensures in
     omega (arith, whole c.before.before.before.before.before.before.before.before.before.before, put.next_is, put.placed.len)
 
 put-rows-requires : tie.Need-put_rows-requires
 put-rows-requires c κs =
-    let counts = c in
-    let names = c in
-    let start = c in
-    let put = names.put_bytes-next.ensures in
-    let next = counts.put_numbers-next.ensures in
-    (start.requires.0, omega (arith, whole c.before.before.before.before.before.before.before.before.before.before.before.before.before.before, put.next_is, put.placed.len, next.next_is, next.placed.len))
+    let put = c.put_bytes-next.ensures in
+    let next = c.put_numbers-next.ensures in
+    (c.requires.0, omega (arith, whole c.before.before.before.before.before.before.before.before.before.before.before.before.before.before, put.next_is, put.placed.len, next.next_is, next.placed.len))
 
 same_length : tie.Need-shape_of-out
 same_length c = search rules
@@ -46,14 +41,11 @@ same_length c = search rules
 returns : tie.Need-returns
 unfolding map_text
 returns c =
-    let rows = c in
-    let counts = c in
-    let names = c in
-    let start = c in
-    let put = names.put_bytes-next.ensures in
-    let next = counts.put_numbers-next.ensures in
-    let rest = puts_join next rows.put_rows.ensures (omega (arith, whole c.before.before.before.before.before.before.before.before.before.before.before.before.before.before.before.before.before, put.next_is, put.placed.len, next.next_is)) in
-    let all = puts_join put rest (omega (arith, whole c.before.before.before.before.before.before.before.before.before.before.before.before.before.before.before.before.before, put.next_is)) in
+    let past = c.before.before.before.before.before.before.before.before.before.before.before.before.before.before.before.before.before in
+    let put = c.put_bytes-next.ensures in
+    let next = c.put_numbers-next.ensures in
+    let rest = puts_join next c.put_rows.ensures (omega (arith, whole past, put.next_is, put.placed.len, next.next_is)) in
+    let all = puts_join put rest (omega (arith, whole past, put.next_is)) in
     (all.next_is ∙ zero-add _, placed_start all.placed)
 
 pub put_map_spec : {M : Type 1} → statement M

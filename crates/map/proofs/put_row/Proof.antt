@@ -11,7 +11,6 @@ use borrow.Author.Rules.{rules}
 use Rattle.map.proofs.put_row.Statement.{statement}
 use Rattle.map.proofs.put_row.Tie as tie
 
--- the places that the others follow: the start, the marks, the spaces
 marked : (c : tie.After-put_marks-next) → let a = c.args in
     let i = c.sampled_at-i.result in
     length (tab a.b.c (λ y. mark_at a.b a.planes.now i (get_or a.columns.now y 0))) ≡ a.b.c
@@ -19,40 +18,33 @@ marked c = length_tab_from 0 c.args.b.c _
 
 sampled-at-requires : tie.Need-sampled_at-i-requires
 sampled-at-requires c κs =
-    let start = c in
-    let fit = start.requires.0.0 in
+    let fit = c.requires.0.0 in
     let r = fit.record_in in
-    let n : start.args.x ≤ most_rows = omega (arith, fit.rows_in, start.requires.0.1) in
+    let n : c.args.x ≤ most_rows = omega (arith, fit.rows_in, c.requires.0.1) in
     (record { corner_in = r.top_in; offset_in = r.down_in; number_in = n; size_in = omega arith }, omega arith)
 
 put-marks-requires : tie.Need-put_marks-next-requires
 put-marks-requires c κs =
-    let start = c in
-    let fit = start.requires.0.0 in
-    (fit.planes_fit, (fit.columns_in, omega (arith, start.requires.0.2, fit.columns_in)))
+    let fit = c.requires.0.0 in
+    (fit.planes_fit, (fit.columns_in, omega (arith, c.requires.0.2, fit.columns_in)))
 
 sub-put-spaces : tie.Need-overflow_sub-b
 sub-put-spaces c = c.requires.0.0.columns_in
 
 put-spaces-requires : tie.Need-put_spaces-next-requires
 put-spaces-requires c κs =
-    let marks = c in
-    let start = c in
-    let put = marks.put_marks-next.ensures in
-    omega (arith, start.requires.0.2, start.requires.0.0.columns_in, put.next_is, marked c.before.before.before.before, put.placed.len)
+    let put = c.put_marks-next.ensures in
+    omega (arith, c.requires.0.2, c.requires.0.0.columns_in, put.next_is, marked c.before.before.before.before, put.placed.len)
 
 put-feed-requires : tie.Need-put_feed-requires
 put-feed-requires c κs =
-    let spaces = c in
-    let marks = c in
-    let start = c in
-    let b = start.args.b in
-    let put = marks.put_marks-next.ensures in
-    let spaced = spaces.put_spaces-next.ensures in
+    let b = c.args.b in
+    let put = c.put_marks-next.ensures in
+    let spaced = c.put_spaces-next.ensures in
     omega (
       arith,
-      start.requires.0.2,
-      start.requires.0.0.columns_in,
+      c.requires.0.2,
+      c.requires.0.0.columns_in,
       put.next_is,
       marked c.before.before.before.before.before.before.before.before,
       put.placed.len,
@@ -66,13 +58,9 @@ same_length c = search rules
 
 returns : tie.Need-returns
 returns c =
-    let fed = c in
-    let spaces = c in
-    let marks = c in
-    let start = c in
-    row_put start.args.b _ start.args.x _ start.args.columns.now start.requires.0.0.columns_in start.requires.0.2
-    marks.sampled_at-i.ensures start.requires.1 marks.put_marks-next.ensures spaces.put_spaces-next.ensures
-    fed.put_feed.ensures
+    row_put c.args.b _ c.args.x _ c.args.columns.now c.requires.0.0.columns_in c.requires.0.2
+    c.sampled_at-i.ensures c.requires.1 c.put_marks-next.ensures c.put_spaces-next.ensures
+    c.put_feed.ensures
 
 pub put_row_spec : {M : Type 1} → statement M
 put_row_spec =

@@ -19,7 +19,6 @@ invariant-loop b planes out₀ at columns next₀ x₀ x-end out next x =
 abbrev decreases-loop : tie.decreases-loop-x
 decreases-loop b planes out₀ at columns next₀ x₀ x-end out next x = b.r - x
 
--- the start
 columns-of-requires : tie.Need-columns_of-columns-requires invariant-loop decreases-loop
 columns-of-requires c κs =
     let fit = c.requires.0 in
@@ -27,25 +26,22 @@ columns-of-requires c κs =
 
 loop-holds : tie.Need-loop-x-init invariant-loop decreases-loop
 loop-holds c =
-    let start = c in
-    let a = start.args in
+    let a = c.args in
     let z : a.b.r - 0 ≡ a.b.r = omega arith in (
       omega arith,
       refl,
-      rw z (partly_none (omega (arith, all_rows_length a.b a.planes.now start.requires.0.columns_in, start.requires.1))),
+      rw z (partly_none (omega (arith, all_rows_length a.b a.planes.now c.requires.0.columns_in, c.requires.1))),
     )
 
 put-row-requires : tie.Need-put_row-next-requires invariant-loop decreases-loop
 put-row-requires c κs =
-    let at = c in
-    let start = c in
-    let b = start.args.b in
-    let planes = start.args.planes.now in
-    let x = at.loop-x.x in
-    let p = rw (rows_next b planes x (omega arith)) at at.loop-x.invariant.2 in
+    let b = c.args.b in
+    let planes = c.args.planes.now in
+    let x = c.loop-x.x in
+    let p = rw (rows_next b planes x (omega arith)) at c.loop-x.invariant.2 in
     let room = partly_room (row_line b planes x) _ p in (
-      (start.requires.0, omega arith, omega (arith, room, row_length b planes x start.requires.0.columns_in)),
-      at.columns_of-columns.ensures,
+      (c.requires.0, omega arith, omega (arith, room, row_length b planes x c.requires.0.columns_in)),
+      c.columns_of-columns.ensures,
     )
 
 add-x : tie.Need-overflow_step-x invariant-loop decreases-loop
@@ -56,21 +52,18 @@ loop-less c = search rules
 
 loop-again : tie.Need-loop-x-preserved invariant-loop decreases-loop
 loop-again c =
-    let put = c in
-    let at = c in
-    let a = at.args in
-    let x = at.loop-x.x in
-    let p = rw (rows_next a.b a.planes.now x (omega arith)) at at.loop-x.invariant.2 in
-    (omega arith, at.loop-x.invariant.1, partly_more (row_line a.b a.planes.now x) p put.put_row-next.ensures)
+    let a = c.args in
+    let x = c.loop-x.x in
+    let p = rw (rows_next a.b a.planes.now x (omega arith)) at c.loop-x.invariant.2 in
+    (omega arith, c.loop-x.invariant.1, partly_more (row_line a.b a.planes.now x) p c.put_row-next.ensures)
 
 same_length : tie.Need-shape_of-out invariant-loop decreases-loop
 same_length c = c.loop-x.invariant.2.puts.placed.len
 
 returns : tie.Need-returns invariant-loop decreases-loop
 returns c =
-    let at = c in
-    let a = at.args in
-    partly_all (rw (rows_none a.b a.planes.now at.loop-x.x (omega arith)) at at.loop-x.invariant.2)
+    let a = c.args in
+    partly_all (rw (rows_none a.b a.planes.now c.loop-x.x (omega arith)) at c.loop-x.invariant.2)
 
 pub put_rows_spec : {M : Type 1} → statement M
 put_rows_spec =

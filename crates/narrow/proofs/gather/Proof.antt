@@ -19,7 +19,6 @@ decreases-loop f planes at width m x₀ u₀ x u = f - u
 loop-holds : tie.Need-loop-u-init invariant-loop decreases-loop
 loop-holds c = (omega arith, refl, λ u v l b. absurd (omega arith))
 
--- the place that the others follow
 place : (c : tie.In-loop-u invariant-loop decreases-loop) → let a = c.args in
     a.at + c.loop-u.u * a.width + a.m * a.f ≤ length a.planes.now
 place c = c.requires.0 c.loop-u.u c.loop-u-test.true
@@ -41,9 +40,8 @@ mul-gather-row-3 c = omega (arith, room c.before)
 
 gather-row-requires : tie.Need-gather_row-requires invariant-loop decreases-loop
 gather-row-requires c κs =
-    let turn = c in
-    let p = turn.requires in
-    (place c.before, p.1, omega (arith, room c.before, turn.loop-u.invariant.1, p.2))
+    let p = c.requires in
+    (place c.before, p.1, omega (arith, room c.before, c.loop-u.invariant.1, p.2))
 
 add-u : tie.Need-overflow_step-u invariant-loop decreases-loop
 add-u c = search rules
@@ -53,10 +51,8 @@ loop-less c = search rules
 
 loop-again : tie.Need-loop-u-preserved invariant-loop decreases-loop
 loop-again c =
-    let at = c in
-    let s = c in
     let r = c.gather_row.ensures in
-    (omega arith, r.len ∙ at.loop-u.invariant.1, rows_more s.args.width s.args.at s.requires.1 at.loop-u.invariant.2 r)
+    (omega arith, r.len ∙ c.loop-u.invariant.1, rows_more c.args.width c.args.at c.requires.1 c.loop-u.invariant.2 r)
 
 same_length : tie.Need-shape_of-x invariant-loop decreases-loop
 same_length c = search rules

@@ -22,9 +22,8 @@ loop-holds c = (omega arith, refl, λ l. absurd (omega (arith, c.requires.0.low)
 
 gather-requires : tie.Need-gather-requires invariant-loop decreases-loop
 gather-requires c κs =
-    let at = c in
-    let ask = at.requires in
-    rw c.if-k-f.true (ask.1, ask.2, omega (arith, at.loop-k.invariant.1, ask.3))
+    let ask = c.requires in
+    rw c.if-k-f.true (ask.1, ask.2, omega (arith, c.loop-k.invariant.1, ask.3))
 
 add-k : tie.Need-overflow_step-k invariant-loop decreases-loop
 add-k c = search rules

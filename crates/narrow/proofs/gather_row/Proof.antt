@@ -20,12 +20,10 @@ decreases-loop planes from f m x₀ to l₀ x l = m - l
 loop-holds : tie.Need-loop-l-init invariant-loop decreases-loop
 loop-holds c = (omega arith, row_none)
 
--- the place that the others follow
 place : (c : tie.In-loop-l invariant-loop decreases-loop) → let a = c.args in
     a.from + c.loop-l.l * a.f + a.f ≤ length a.planes.now
 place c =
-    let s = c in
-    omega (arith, row_fits c.loop-l.l s.args.m s.args.f c.loop-l-test.true, s.requires.0)
+    omega (arith, row_fits c.loop-l.l c.args.m c.args.f c.loop-l-test.true, c.requires.0)
 
 mul-fetch : tie.Need-overflow_mul-l invariant-loop decreases-loop
 mul-fetch c = omega (arith, place c)
@@ -37,7 +35,7 @@ add-fetch-2 : tie.Need-overflow_add-to invariant-loop decreases-loop
 add-fetch-2 c = search rules
 
 fetch-requires : tie.Need-fetch-requires invariant-loop decreases-loop
-fetch-requires c κs = let at = c in (place c.before, omega (arith, at.loop-l.invariant.1.len, at.requires.2))
+fetch-requires c κs = (place c.before, omega (arith, c.loop-l.invariant.1.len, c.requires.2))
 
 add-l : tie.Need-overflow_step-l invariant-loop decreases-loop
 add-l c = search rules
@@ -47,8 +45,7 @@ loop-less c = search rules
 
 loop-again : tie.Need-loop-l-preserved invariant-loop decreases-loop
 loop-again c =
-    let at = c in
-    (omega arith, row_more (omega (arith, at.requires.1)) at.loop-l.invariant.1 c.fetch.ensures)
+    (omega arith, row_more (omega (arith, c.requires.1)) c.loop-l.invariant.1 c.fetch.ensures)
 
 same_length : tie.Need-shape_of-x invariant-loop decreases-loop
 same_length c = search rules

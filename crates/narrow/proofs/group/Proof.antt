@@ -12,14 +12,10 @@ use borrow.Author.Rules.{rules}
 use Rattle.narrow.proofs.group.Statement.{statement}
 use Rattle.narrow.proofs.group.Tie as tie
 
--- the places that the others follow
-abbrev lists : tie.After-gather_known → List Float
-lists c = c.gather_known.new.x
-
 -- the first value of the first block is there
 place : (c : tie.After-slice_known-2-1) → let a = c.args in
     a.k * (a.height * a.width) + (a.i * a.f * a.width + a.j * a.f) ≤ length a.planes.now
-place c = let s = c in omega (arith, reached s.args.j s.args.m s.requires.0 0 (some s.args.j s.args.m s.requires.0))
+place c = omega (arith, reached c.args.j c.args.m c.requires.0 0 (some c.args.j c.args.m c.requires.0))
 
 mul_at : tie.Need-overflow_mul-at
 mul_at c = search rules
@@ -28,13 +24,13 @@ mul-at-2 : tie.Need-overflow_mul-at-2
 mul-at-2 c = omega (arith, place c)
 
 mul-at-3 : tie.Need-overflow_mul-at-3
-mul-at-3 c = let s = c in omega (arith, row_first s.args.j s.args.m s.requires.0)
+mul-at-3 c = omega (arith, row_first c.args.j c.args.m c.requires.0)
 
 mul-at-4 : tie.Need-overflow_mul-at-4
 mul-at-4 c = omega (arith, place c)
 
 mul-at-5 : tie.Need-overflow_mul-at-5
-mul-at-5 c = let s = c in omega (arith, column_first s.args.j s.args.m s.requires.0 s.requires.1.0)
+mul-at-5 c = omega (arith, column_first c.args.j c.args.m c.requires.0 c.requires.1.0)
 
 add_at : tie.Need-overflow_add-at
 add_at c = omega (arith, place c)
@@ -44,21 +40,18 @@ add-at-2 c = omega (arith, place c)
 
 gather-known-requires : tie.Need-gather_known-requires
 gather-known-requires c κs =
-    let s = c in
-    let q = s.requires.1 in
-    (s.requires.0.1, reached s.args.j s.args.m s.requires.0, q.1, q.2)
+    let q = c.requires.1 in
+    (c.requires.0.1, reached c.args.j c.args.m c.requires.0, q.1, q.2)
 
 mul-medians : tie.Need-overflow_mul-f
 mul-medians c = search rules
 
 medians-requires : tie.Need-medians-requires
 medians-requires c κs =
-    let at = c in
-    let s = c in
-    let some-f = some s.args.j s.args.m s.requires.0 in (
-      (mul-pos some-f some-f, search rules, s.requires.1.1, omega (arith, s.requires.0.4, s.requires.1.3)),
-      list_units s.args.j s.args.m s.requires.0 (lists c.before.before.before.before) at.gather_known.ensures
-          at.shared_slice_known-1.given,
+    let some-f = some c.args.j c.args.m c.requires.0 in (
+      (mul-pos some-f some-f, search rules, c.requires.1.1, omega (arith, c.requires.0.4, c.requires.1.3)),
+      list_units c.args.j c.args.m c.requires.0 c.gather_known.new.x c.gather_known.ensures
+          c.shared_slice_known-1.given,
     )
 
 same_length : tie.Need-shape_of-x
@@ -69,11 +62,8 @@ same-length-2 c = search rules
 
 returns : tie.Need-returns
 returns c =
-    let done = c in
-    let at = c in
-    let s = c in
-    rw (← tab_same s.args.m _ _ (list_median s.args.j s.args.m s.requires.0 (lists c.before.before.before.before.before.before.before.before.before) at.gather_known.ensures))
-    done.medians.ensures
+    rw (← tab_same c.args.m _ _ (list_median c.args.j c.args.m c.requires.0 c.gather_known.new.x c.gather_known.ensures))
+    c.medians.ensures
 
 pub group_spec : {M : Type 1} → statement M
 group_spec =

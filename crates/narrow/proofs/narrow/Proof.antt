@@ -11,7 +11,6 @@ use borrow.Author.Rules.{rules}
 use Rattle.narrow.proofs.narrow.Statement.{statement}
 use Rattle.narrow.proofs.narrow.Tie as tie
 
--- the places that the others follow
 narrow-planes-requires : tie.Need-narrow_planes-requires
 narrow-planes-requires c κs = search rules
 
@@ -42,15 +41,13 @@ same-length-2 c = search rules
 
 returns : tie.Need-returns
 returns c =
-    let copied = c in
-    let laid = c in
-    let a = laid.args in
+    let a = c.args in
     let n = 3 * (a.height / a.f * (a.width / a.f)) in
     let long = length_packed (narrowed a.f (view a.height a.width a.planes.now)) in
-    let front = rw (front_part n long laid.narrow_planes.ensures.0) at copied.copy_f32.ensures in
+    let front = rw (front_part n long c.narrow_planes.ensures.0) at c.copy_f32.ensures in
     let fits = room c.before.before.before.before.before.before.before.before.before.before.before.before.before in (
-      (same_over zero32 n (3 * (a.height * a.width)) long (omega arith) laid.narrow_planes.ensures.1 front).is,
-      front_kept (a.height * a.width) (omega (arith, long)) laid.narrow_planes.ensures.0,
+      (same_over zero32 n (3 * (a.height * a.width)) long (omega arith) c.narrow_planes.ensures.1 front).is,
+      front_kept (a.height * a.width) (omega (arith, long)) c.narrow_planes.ensures.0,
     )
 
 pub narrow_spec : {M : Type 1} → statement M

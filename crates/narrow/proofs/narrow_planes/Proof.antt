@@ -49,18 +49,16 @@ mul-r-end c = omega (arith, few c.before.before)
 loop-holds : tie.Need-loop-r-init invariant-loop decreases-loop
 loop-holds c = (omega arith, refl, search rules, rw zero-mul front_none, rw zero-mul front_none)
 
--- the places that the others follow
 place : (c : tie.In-loop-r invariant-loop decreases-loop) → let a = c.args in
     c.loop-r.r * (a.width / a.f) + a.width / a.f ≤ a.height * a.width
-place c = let s = c in row_in s.args.f s.args.height s.args.width s.requires.1.low c.loop-r-test.true
+place c = row_in c.args.f c.args.height c.args.width c.requires.1.low c.loop-r-test.true
 
 -- and what is cleared after it within the planes
 band : (c : tie.In-loop-r invariant-loop decreases-loop) → let a = c.args in
     c.loop-r.r * (a.f * a.width) + a.f * a.width ≤ length c.loop-r.planes
 band c =
-    let s = c in
-    let within = band_in s.args.f s.args.height s.args.width c.loop-r-test.true in
-    omega (arith, within, c.loop-r.invariant.4.len, s.requires.0.there)
+    let within = band_in c.args.f c.args.height c.args.width c.loop-r-test.true in
+    omega (arith, within, c.loop-r.invariant.4.len, c.requires.0.there)
 
 mul-from : tie.Need-overflow_mul-from invariant-loop decreases-loop
 mul-from c =
@@ -90,15 +88,13 @@ part-narrow-row-end c = search rules
 
 narrow-row-requires : tie.Need-narrow_row-requires invariant-loop decreases-loop
 narrow-row-requires c κs =
-    let turn = c in
-    let r = turn.loop-r.r in
-    let start = c in
-    let a = start.args in
-    let at = row_column 3 (a.height / a.f) r turn.loop-r-test.true in (
-      (cleared_fit (r * (a.f * a.width)) turn.loop-r.invariant.4 start.requires.0, start.requires.1, at.0, at.1),
+    let r = c.loop-r.r in
+    let a = c.args in
+    let at = row_column 3 (a.height / a.f) r c.loop-r-test.true in (
+      (cleared_fit (r * (a.f * a.width)) c.loop-r.invariant.4 c.requires.0, c.requires.1, at.0, at.1),
       (
-        omega (arith, mul-le-mul start.requires.1.high start.requires.1.high),
-        rw (mid_rest (r * (a.width / a.f)) turn.loop-r.out, length-drop) (omega (arith, place c.before.before)),
+        omega (arith, mul-le-mul c.requires.1.high c.requires.1.high),
+        rw (mid_rest (r * (a.width / a.f)) c.loop-r.out, length-drop) (omega (arith, place c.before.before)),
       ),
     )
 
@@ -119,9 +115,8 @@ part-clear-f32-end c = search rules
 
 clear-f32-requires : tie.Need-clear_f32-requires invariant-loop decreases-loop
 clear-f32-requires c κs =
-    let turn = c in
-    let a = turn.args in
-    rw (mid_rest (turn.loop-r.r * (a.f * a.width)) turn.loop-r.planes, length-drop) (omega (arith, band c.before.before.before.before.before.before.before))
+    let a = c.args in
+    rw (mid_rest (c.loop-r.r * (a.f * a.width)) c.loop-r.planes, length-drop) (omega (arith, band c.before.before.before.before.before.before.before))
 
 add_r : tie.Need-overflow_step-r invariant-loop decreases-loop
 add_r c = omega (arith, few c.before.before.before.before.before.before.before.before.before.before.before.before.before.before)
@@ -131,19 +126,16 @@ loop-less c = search rules
 
 loop-again : tie.Need-loop-r-preserved invariant-loop decreases-loop
 loop-again c =
-    let known = c in
-    let turn = c in
-    let at = c in
-    let a = at.args in
-    let r = at.loop-r.r in
+    let a = c.args in
+    let r = c.loop-r.r in
     let s = narrowed a.f (view a.height a.width a.planes.now) in
-    let same = row_same a.f a.height a.width r at.loop-r.invariant.4 in (
+    let same = row_same a.f a.height a.width r c.loop-r.invariant.4 in (
       omega arith,
       refl,
       search rules,
-      next_row s r at.loop-r.invariant.3 (rw same at known.narrow_row.ensures),
+      next_row s r c.loop-r.invariant.3 (rw same at c.narrow_row.ensures),
       rw (add-mul r 1 (a.f * a.width), one-mul)
-          (same_more zero32 (r * (a.f * a.width)) (a.f * a.width) at.loop-r.invariant.4 c.clear_f32.ensures),
+          (same_more zero32 (r * (a.f * a.width)) (a.f * a.width) c.loop-r.invariant.4 c.clear_f32.ensures),
     )
 
 -- what the loop cleared lies within the planes
@@ -151,8 +143,7 @@ loop-cleared : (c : tie.After-loop-r invariant-loop decreases-loop) → let a = 
     (3 * (a.height / a.f) * (a.f * a.width) ≤ 3 * (a.height * a.width))
     × (3 * (a.height * a.width) ≤ length c.loop-r.planes)
 loop-cleared c =
-    let s = c in
-    (bands_in s.args.f s.args.height s.args.width, omega (arith, c.loop-r.invariant.4.len, s.requires.0.there))
+    (bands_in c.args.f c.args.height c.args.width, omega (arith, c.loop-r.invariant.4.len, c.requires.0.there))
 
 mul-cleared : tie.Need-overflow_mul-cleared invariant-loop decreases-loop
 mul-cleared c = omega (arith, few c.before.before.before.before)
@@ -195,14 +186,13 @@ same-length-2 c = search rules
 
 returns : tie.Need-returns invariant-loop decreases-loop
 returns c =
-    let done = c in
-    let a = done.args in
+    let a = c.args in
     let n = 3 * (a.height / a.f) * (a.f * a.width) in
-    let r : done.loop-r.r ≡ 3 * (a.height / a.f) = omega arith in
+    let r : c.loop-r.r ≡ 3 * (a.height / a.f) = omega arith in
     let rest = 3 * (a.height * a.width) - n in
     let all : n + rest ≡ 3 * (a.height * a.width) = omega (arith, (loop-cleared c.before.before.before.before).0) in (
-      rw (packed_rows (narrowed a.f (view a.height a.width a.planes.now))) (rw r at done.loop-r.invariant.3),
-      rw all at (same_more zero32 n rest (rw r at done.loop-r.invariant.4) c.clear_f32-2.ensures),
+      rw (packed_rows (narrowed a.f (view a.height a.width a.planes.now))) (rw r at c.loop-r.invariant.3),
+      rw all at (same_more zero32 n rest (rw r at c.loop-r.invariant.4) c.clear_f32-2.ensures),
     )
 
 pub narrow_planes_spec : {M : Type 1} → statement M

@@ -21,7 +21,6 @@ invariant-loop f height width planes k i x₀ out₀ columns j₀ x out j =
 abbrev decreases-loop : tie.decreases-loop-j
 decreases-loop f height width planes k i x₀ out₀ columns j₀ x out j = width / f - j
 
--- the places that the others follow
 div-columns : tie.Need-nonzero_div-columns invariant-loop decreases-loop
 div-columns c = search rules
 
@@ -48,9 +47,8 @@ loop-less c = search rules
 
 loop-again : tie.Need-loop-j-preserved invariant-loop decreases-loop
 loop-again c =
-    let sized = c in
-    let at = sized.loop-j in
-    let m = sized.group_size-m.ensures in
+    let at = c.loop-j in
+    let m = c.group_size-m.ensures in
     let all = placed_front at.invariant.2 (length_tab_from 0 at.j _) c.group.ensures in
     (omega arith, search rules, rw (tab_add at.j _ _) all)
 

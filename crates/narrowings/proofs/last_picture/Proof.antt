@@ -11,7 +11,6 @@ use borrow.Author.Rules.{rules}
 use Rattle.narrowings.proofs.last_picture.Statement.{statement}
 use Rattle.narrowings.proofs.last_picture.Tie as tie
 
--- the places that the others follow
 points-in : (c : tie.After-narrow_on-l) → (c.narrow_on-l.result.height - 2) * (c.narrow_on-l.result.width - 2)
     ≤ c.args.height * c.args.width
 points-in c = points_fit c.narrow_on-l.ensures
@@ -23,9 +22,8 @@ look-requires c κs =
 
 narrow-on-requires : tie.Need-narrow_on-l-requires
 narrow-on-requires c κs =
-    let at = c in
-    let ask = at.requires in
-    (ask.0, (at.look-start.ensures, omega (arith, ask.1.1)))
+    let ask = c.requires in
+    (ask.0, (c.look-start.ensures, omega (arith, ask.1.1)))
 
 sub-n : tie.Need-overflow_sub-n
 sub-n c = search rules
@@ -34,20 +32,18 @@ sub-n-2 : tie.Need-overflow_sub-n-2
 sub-n-2 c = search rules
 
 mul-n : tie.Need-overflow_mul-n
-mul-n c = let at = c in omega (arith, points-in c.before.before.before.before.before.before, at.requires.0.1.sides.area)
+mul-n c = omega (arith, points-in c.before.before.before.before.before.before, c.requires.0.1.sides.area)
 
 slice-reshare-prefix-mark : tie.Need-slice_bounds-mark-end
-slice-reshare-prefix-mark c = let at = c in omega (arith, points-in c.before.before.before.before.before.before, at.requires.1.1)
+slice-reshare-prefix-mark c = omega (arith, points-in c.before.before.before.before.before.before, c.requires.1.1)
 
 slice-aggregate-mark : tie.Need-slice_bounds-mark-end-2
 slice-aggregate-mark c =
-    let at = c in
-    sym (length-take-le _ _ (omega (arith, points-in c.before.before.before.before.before.before, at.requires.1.1)))
+    sym (length-take-le _ _ (omega (arith, points-in c.before.before.before.before.before.before, c.requires.1.1)))
 
 mark-requires : tie.Need-mark-requires
 mark-requires c κs =
-    let at = c in
-    simp length-take (omega (arith, points-in c.before.before.before.before.before.before.before, at.requires.1.0))
+    simp length-take (omega (arith, points-in c.before.before.before.before.before.before.before, c.requires.1.0))
 
 same_length : tie.Need-shape_of-planes
 same_length c = search rules
@@ -60,9 +56,8 @@ same-length-3 c = search rules
 
 returns : tie.Need-returns
 returns c =
-    let done = c in
-    let n = done.narrow_on-l.ensures in
-    (n, last_edged n done.mark.ensures)
+    let n = c.narrow_on-l.ensures in
+    (n, last_edged n c.mark.ensures)
 
 pub last_picture_spec : {M : Type 1} → statement M
 last_picture_spec =

@@ -15,32 +15,21 @@ use borrow.Author.Rules.{rules}
 use Rattle.narrowings.proofs.look.Statement.{statement}
 use Rattle.narrowings.proofs.look.Tie as tie
 
--- what was handed in, seen from after the gradients
-abbrev height : tie.After-gradient_of → ℕ
-height c = c.args.height
-
-abbrev width : tie.After-gradient_of → ℕ
-width c = c.args.width
-
-abbrev planes : tie.After-gradient_of → List Float
-planes c = c.args.planes.now
-
-sides : (c : tie.After-gradient_of) → SidesIn least_plane_side (height c) (width c)
+sides : (c : tie.After-gradient_of) → SidesIn least_plane_side c.args.height c.args.width
 sides c = c.requires.0.sides
 
 -- the part of the scratch that holds the gradients
 part : (c : tie.After-gradient_of)
-    → take ((height c - 2) * (width c - 2)) c.gradient_of.new.out ≡ gradients (height c) (width c) (planes c)
-part c = gradients_part (height c) (width c) (planes c) c.gradient_of.ensures
+    → take ((c.args.height - 2) * (c.args.width - 2)) c.gradient_of.new.out ≡ gradients c.args.height c.args.width c.args.planes.now
+part c = gradients_part c.args.height c.args.width c.args.planes.now c.gradient_of.ensures
 
 part_length : (c : tie.After-gradient_of)
-    → length (take ((height c - 2) * (width c - 2)) c.gradient_of.new.out) ≡ (height c - 2) * (width c - 2)
-part_length c = ap length (part c) ∙ length_gradients (height c) (width c) (planes c)
+    → length (take ((c.args.height - 2) * (c.args.width - 2)) c.gradient_of.new.out) ≡ (c.args.height - 2) * (c.args.width - 2)
+part_length c = ap length (part c) ∙ length_gradients c.args.height c.args.width c.args.planes.now
 
 gradient-of-requires : tie.Need-gradient_of-requires
 gradient-of-requires c κs =
-    let start = c in
-    (start.requires.0, omega (arith, start.requires.1, inner_le start.args.height start.args.width))
+    (c.requires.0, omega (arith, c.requires.1, inner_le c.args.height c.args.width))
 
 sub_row : tie.Need-overflow_sub-row
 sub_row c = omega (arith, (sides c.before.before).low_h)
@@ -49,44 +38,42 @@ sub-column : tie.Need-overflow_sub-column
 sub-column c = omega (arith, (sides c.before.before).low_w)
 
 mul-n : tie.Need-overflow_mul-n
-mul-n c = let g = c in omega (arith, (sides c.before.before).area, inner_le (height c.before.before) (width c.before.before))
+mul-n c = omega (arith, (sides c.before.before).area, inner_le c.args.height c.args.width)
 
 slice-reshare-prefix-threshold-of : tie.Need-slice_bounds-threshold_of-end
-slice-reshare-prefix-threshold-of c = let g = c in gradients_in (height c.before.before) (width c.before.before) (planes c.before.before) g.gradient_of.ensures
+slice-reshare-prefix-threshold-of c = gradients_in c.args.height c.args.width c.args.planes.now c.gradient_of.ensures
 
 slice-aggregate-threshold-of : tie.Need-slice_bounds-threshold_of-end-2
 slice-aggregate-threshold-of c = sym (part_length c.before.before)
 
 threshold-of-requires : tie.Need-threshold_of-th-requires
 threshold-of-requires c κs =
-    let g = c in
     let s = sides c.before.before in (
       (omega (arith, s.low_h), omega (arith, s.low_w)),
       record {
         row_in = omega (arith, s.high_h);
         column_in = omega (arith, s.high_w);
         long = part_length c.before.before;
-        plain = rw (part c.before.before) (all_plain g.requires.0);
+        plain = rw (part c.before.before) (all_plain c.requires.0);
       },
     )
 
 slice-reshare-prefix-get-r12c12 : tie.Need-slice_bounds-get_r12c12-end
 slice-reshare-prefix-get-r12c12 c =
-    let g = c in
-    gradients_in (height c.before.before.before) (width c.before.before.before) (planes c.before.before.before) g.gradient_of.ensures
+    gradients_in c.args.height c.args.width c.args.planes.now c.gradient_of.ensures
 
 slice-aggregate-get-r12c12 : tie.Need-slice_bounds-get_r12c12-end-2
 slice-aggregate-get-r12c12 c = sym (part_length c.before.before.before)
 
 get-r12c12-requires : tie.Need-get_r12c12-b-requires
 get-r12c12-requires c κs =
-    let g = c in
-    let s = sides c.before.before.before in (
+    let past = c.before.before.before in
+    let s = sides past in (
       omega (arith, s.low_h),
       omega (arith, s.high_h),
       omega (arith, s.low_w),
       omega (arith, s.high_w),
-      omega (arith, part_length c.before.before.before),
+      omega (arith, part_length past),
     )
 
 same_length : tie.Need-shape_of-scratch
@@ -94,12 +81,12 @@ same_length c = search rules
 
 returns : tie.Need-returns
 returns c =
-    let g = c in
-    let is = rw (part c.before.before.before.before) at c.threshold_of-th.ensures in
+    let past = c.before.before.before.before in
+    let is = rw (part past) at c.threshold_of-th.ensures in
     record {
-      gradients_are = part c.before.before.before.before;
+      gradients_are = part past;
       threshold_is = is;
-      bounds_are = marked_bounds (height c.before.before.before.before) (width c.before.before.before.before) (planes c.before.before.before.before) (part c.before.before.before.before) is c.get_r12c12-b.ensures;
+      bounds_are = marked_bounds c.args.height c.args.width c.args.planes.now (part past) is c.get_r12c12-b.ensures;
     }
 
 pub look_spec : {M : Type 1} → statement M

@@ -25,7 +25,6 @@ invariant-loop f height width planes₀ g₀ h₀ w₀ th₀ b₀ n₀ planes g 
 abbrev decreases-loop : tie.decreases-loop-th
 decreases-loop f height width planes₀ g₀ h₀ w₀ th₀ b₀ n₀ planes g h w th b n = h
 
--- the places that the others follow
 abbrev here : tie.After-narrow invariant-loop decreases-loop → Stage
 here c = let at = c.loop-th in staged at.h at.w at.planes at.n
 
@@ -38,22 +37,21 @@ sound c = c.loop-th.invariant.0.sound
 
 is-thin : (c : tie.After-narrow invariant-loop decreases-loop) → thin (here c).height (here c).width (bounds_at (here c)) ≡ true
 is-thin c =
-    let test = c in
-    rw c.loop-th.invariant.1.bounds_are at (sym test.thin.ensures ∙ test.loop-th-test.true)
+    rw c.loop-th.invariant.1.bounds_are at (sym c.thin.ensures ∙ c.loop-th-test.true)
 
 -- the narrowed screen, whose edge picture the look leaves in the bytes
 sound-now : (c : tie.After-narrow invariant-loop decreases-loop) → let a = c.args in
     Sound least_plane_side a.height a.width (length a.planes.now) (next a.factor (here c))
 sound-now c = sound_next _ (asked c) (sound c)
 
-looks : (c : tie.After-look-s invariant-loop decreases-loop) → let m = c in
-    let s = next m.args.factor (here c.before.before.before.before.before.before) in
+looks : (c : tie.After-look-s invariant-loop decreases-loop) →
+    let s = next c.args.factor (here c.before.before.before.before.before.before) in
     Looks s.height s.width s.planes c.look-s.result.threshold c.look-s.result.bounds c.look-s.new.scratch
 looks c = rw c.narrow.ensures.0 at c.look-s.ensures
 
 -- not too small, so that the loop goes on
-goes_on : (c : tie.Else-small invariant-loop decreases-loop) → let m = c in
-    let f = m.args.factor in
+goes_on : (c : tie.Else-small invariant-loop decreases-loop) →
+    let f = c.args.factor in
     small ((here c.before.before.before.before.before.before.before.before.before.before.before).height / f) ((here c.before.before.before.before.before.before.before.before.before.before.before).width / f) ≡ false
 goes_on c = sym c.small.ensures ∙ c.if-small.false
 
@@ -70,10 +68,9 @@ thin-requires c κs =
 
 narrow-requires : tie.Need-narrow-requires invariant-loop decreases-loop
 narrow-requires c κs =
-    let at = c in
-    let inv = at.loop-th.invariant in
+    let inv = c.loop-th.invariant in
     let s = inv.0.sound in
-    (fit_lower 0 (omega arith) s.fit, at.requires.0.0, omega (arith, s.area, inv.2, at.requires.1.1))
+    (fit_lower 0 (omega arith) s.fit, c.requires.0.0, omega (arith, s.area, inv.2, c.requires.1.1))
 
 div-h : tie.Need-nonzero_div-h invariant-loop decreases-loop
 div-h c = search (rules, (asked c.before.before.before.before).low)
@@ -83,14 +80,12 @@ div-w c = search (rules, (asked c.before.before.before.before).low)
 
 add-n : tie.Need-overflow_add-n invariant-loop decreases-loop
 add-n c =
-    let at = c in
-    omega (arith, at.loop-th.invariant.0.counted, at.requires.0.1.sides.high_h)
+    omega (arith, c.loop-th.invariant.0.counted, c.requires.0.1.sides.high_h)
 
 look-requires : tie.Need-look-s-requires invariant-loop decreases-loop
 look-requires c κs =
-    let m = c in
     let s = sound-now c.before.before.before.before.before in
-    (rw m.narrow.ensures.0 s.fit, omega (arith, s.area, m.loop-th.invariant.2, m.requires.1.1))
+    (rw c.narrow.ensures.0 s.fit, omega (arith, s.area, c.loop-th.invariant.2, c.requires.1.1))
 
 small-requires : tie.Need-small-requires invariant-loop decreases-loop
 small-requires c κs =
@@ -105,23 +100,21 @@ same-length-2 c = search rules
 
 returns : tie.Need-returns-then-small invariant-loop decreases-loop
 returns c =
-    let l = c in
-    let m = c in
-    rw m.narrow.ensures.0
-    (narrows_small _ (asked c.before.before.before.before.before.before.before.before.before.before.before) m.loop-th.invariant.0 (is-thin c.before.before.before.before.before.before.before.before.before.before.before) (sym c.small.ensures ∙ c.if-small.true) (looks c.before.before.before.before.before))
+    let past = c.before.before.before.before.before.before.before.before.before.before.before in
+    rw c.narrow.ensures.0
+    (narrows_small _ (asked past) c.loop-th.invariant.0 (is-thin past) (sym c.small.ensures ∙ c.if-small.true) (looks c.before.before.before.before.before))
 
 loop-less : tie.Need-loop-th-smaller invariant-loop decreases-loop
 loop-less c =
-    let m = c in
-    div-lt_self (omega (arith, (sound c.before.before.before.before.before.before.before.before.before.before.before).fit.sides.low_h)) (omega (arith, (asked c.before.before.before.before.before.before.before.before.before.before.before).low))
+    let past = c.before.before.before.before.before.before.before.before.before.before.before in
+    div-lt_self (omega (arith, (sound past).fit.sides.low_h)) (omega (arith, (asked past).low))
 
 loop-again : tie.Need-loop-th-preserved invariant-loop decreases-loop
 loop-again c =
-    let l = c in
-    let m = c in
-    let inv = m.loop-th.invariant in (
-      rw m.narrow.ensures.0 (going_on _ (asked c.before.before.before.before.before.before.before.before.before.before.before) inv.0 (is-thin c.before.before.before.before.before.before.before.before.before.before.before) (goes_on c)),
-      l.look-s.ensures,
+    let past = c.before.before.before.before.before.before.before.before.before.before.before in
+    let inv = c.loop-th.invariant in (
+      rw c.narrow.ensures.0 (going_on _ (asked past) inv.0 (is-thin past) (goes_on c)),
+      c.look-s.ensures,
       omega (arith, inv.2),
     )
 

@@ -23,12 +23,11 @@ sub-span-2 : tie.Need-overflow_sub-span-2
 sub-span-2 c = search rules
 
 add-span : tie.Need-overflow_add-span
-add-span c = let at = c in omega (arith, at.requires.0.2 (length at.args.lines.now - 1))
+add-span c = omega (arith, c.requires.0.2 (length c.args.lines.now - 1))
 
 int-to-float-trunc : tie.Need-int_to_float-span
 int-to-float-trunc c =
-    let at = c in
-    in_float_lem (omega (arith, at.requires.0.2 (length at.args.lines.now - 1)))
+    in_float_lem (omega (arith, c.requires.0.2 (length c.args.lines.now - 1)))
 
 pitch-of-requires : tie.Need-pitch_of-requires
 pitch-of-requires c κs = search rules

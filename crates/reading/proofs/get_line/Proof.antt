@@ -11,7 +11,6 @@ use borrow.Author.Rules.{rules}
 use Rattle.reading.proofs.get_line.Statement.{statement}
 use Rattle.reading.proofs.get_line.Tie as tie
 
--- the places that the others follow
 fits : (c : tie.Else-answer-ne0)
     → InLimits c.args.list.now × (4 * length c.args.list.now ≤ length c.args.scratch.now)
 fits c = line_fit c.args.list.now (length c.args.scratch.now) (sym c.line_answer-answer.ensures ∙ c.if-answer-ne0.false)
@@ -39,20 +38,17 @@ quarters-of-requires c κs = ((fits c.before).0, simp length-take (omega (arith,
 
 pitched-of-requires : tie.Need-pitched_of-requires
 pitched-of-requires c κs =
-    let read = c in
-    rw read.quarters_of.ensures (quarters_pitched _ (fits c.before.before.before.before).0)
+    rw c.quarters_of.ensures (quarters_pitched _ (fits c.before.before.before.before).0)
 
 same_length : tie.Need-shape_of-scratch
 same_length c = search rules
 
 returns-2 : tie.Need-returns
 returns-2 c =
-    let read = c in
-    let test = c in
-    let a = test.args in
-    let zero = sym test.line_answer-answer.ensures ∙ test.if-answer-ne0.false in
-    let e = (rw read.quarters_of.ensures at c.pitched_of.ensures) ∙ taken a.list.now (length a.scratch.now) zero in
-    let kept = drop_at read.quarters_of.new.scratch _ _ (read.quarters_of.auto.scratch ∙ length-take-le _ _ (fits c.before.before.before.before.before).1) in
+    let a = c.args in
+    let zero = sym c.line_answer-answer.ensures ∙ c.if-answer-ne0.false in
+    let e = (rw c.quarters_of.ensures at c.pitched_of.ensures) ∙ taken a.list.now (length a.scratch.now) zero in
+    let kept = drop_at c.quarters_of.new.scratch _ _ (c.quarters_of.auto.scratch ∙ length-take-le _ _ (fits c.before.before.before.before.before).1) in
     (e, line_gives a.list.now a.scratch.now e kept)
 
 pub get_line_spec : {M : Type 1} → statement M

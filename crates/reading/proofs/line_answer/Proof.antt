@@ -12,31 +12,29 @@ abbrev list : tie.Start → List ℕ
 list c = c.args.list.now
 
 returns : tie.Need-returns-then-n-lt-SHORTEST
-returns c = let at = c in too_short (list c.before.before) at.args.scratch (omega arith)
+returns c = too_short (list c.before.before) c.args.scratch (omega arith)
 
 returns-2 : tie.Need-returns-then-n-gt-LONGEST
-returns-2 c = let at = c in too_long (list c.before.before.before) at.args.scratch (omega arith)
+returns-2 c = too_long (list c.before.before.before) c.args.scratch (omega arith)
 
 mul-room : tie.Need-overflow_mul-room
 mul-room c = search rules
 
 returns-3 : tie.Need-returns-then-scratch-room
-returns-3 c = let at = c in no_room (list c.before.before.before.before) at.args.scratch (omega arith) (omega arith) (omega arith)
+returns-3 c = no_room (list c.before.before.before.before) c.args.scratch (omega arith) (omega arith) (omega arith)
 
 largest-of-requires : tie.Need-largest_of-requires
 largest-of-requires c κs = search rules
 
 returns-4 : tie.Need-returns-then-largest_of-gt-HIGHEST
 returns-4 c =
-    let at = c in
     let high = c.largest_of.ensures in
-    too_high (list c.before.before.before.before.before.before) at.args.scratch (omega arith) (omega arith) (omega arith) (omega (arith, high))
+    too_high (list c.before.before.before.before.before.before) c.args.scratch (omega arith) (omega arith) (omega arith) (omega (arith, high))
 
 returns-5 : tie.Need-returns
 returns-5 c =
-    let at = c in
     let low = c.largest_of.ensures in
-    fit_answer_lem (list c.before.before.before.before.before.before) at.args.scratch
+    fit_answer_lem (list c.before.before.before.before.before.before) c.args.scratch
     (record { shortest = omega arith; longest = omega arith; entries = omega (arith, low) }) (omega arith)
 
 pub line_answer_spec : {M : Type 1} → statement M

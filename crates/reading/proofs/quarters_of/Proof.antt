@@ -35,9 +35,7 @@ part-read-lines-end c = (stands c).inside
 
 read-lines-requires : tie.Need-read_lines-requires
 read-lines-requires c κs =
-    let at = c in
-    let first = c in
-    rw (stands c.before.before).lines (readable_more (stands c.before.before).readable (omega (arith, first.requires.1, at.remaining_of.auto)))
+    rw (stands c.before.before).lines (readable_more (stands c.before.before).readable (omega (arith, c.requires.1, c.remaining_of.auto)))
 
 enum-known-n : tie.Need-enum_known-n
 enum-known-n c = search rules
@@ -47,17 +45,14 @@ same_length c = search rules
 
 returns : tie.Need-returns-in-Lines
 returns c =
-    let read = c in
-    standing_read (stands c.before.before.before.before.before) read.read_lines.ensures
+    standing_read (stands c.before.before.before.before.before) c.read_lines.ensures
 
 same-length-2 : tie.Need-shape_of-scratch-in-Refused
 same-length-2 c = search rules
 
 returns-2 : tie.Need-returns-in-Refused
 returns-2 c =
-    let told = c in
-    let from = c in
-    let why = handed_refusal c.args.s.now from.remaining_of.new.array from.remaining_of.ensures c.in-Refused.is in
+    let why = handed_refusal c.args.s.now c.remaining_of.new.array c.remaining_of.ensures c.in-Refused.is in
     refused c.args.s.now why.0 why.1
 
 pub quarters_of_spec : {M : Type 1} → statement M

@@ -4,15 +4,13 @@ use borrow.Author.Rules.{rules}
 use Rattle.reading.proofs.read_lines.Statement.{statement}
 use Rattle.reading.proofs.read_lines.Tie as tie
 
--- the places that the others follow
 winner-of-requires : tie.Need-winner_of-w-requires
 winner-of-requires c κs = let asked = c.requires in ((asked.some, asked.few, asked.entries), asked.row)
 
 count-of-requires : tie.Need-count_of-requires
 count-of-requires c κs =
-    let won = c in
-    let asked = won.requires in
-    rw won.winner_of-w.ensures ((readable_low asked, asked.some, asked.entries), asked.rising)
+    let asked = c.requires in
+    rw c.winner_of-w.ensures ((readable_low asked, asked.some, asked.entries), asked.rising)
 
 same_length : tie.Need-shape_of-row
 same_length c = search rules

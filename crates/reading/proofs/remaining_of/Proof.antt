@@ -17,26 +17,22 @@ use borrow.Author.Rules.{rules}
 use Rattle.reading.proofs.remaining_of.Statement.{statement}
 use Rattle.reading.proofs.remaining_of.Tie as tie
 
--- the places that the others follow, and the list
-abbrev list : tie.After-find_lines-n → List ℕ
-list c = c.args.s.now
-
--- a list c the front of a slice, as the part that is lent on
+-- a c.args.s.now the front of a slice, as the part that is lent on
 part-is : {l lent out : List ℕ} {n : ℕ} → n ≡ length l → AtFront l lent out → take (n - 0) out ≡ l
 part-is {n = n} e h = rw sub-zero (front_part n (sym e) h)
 
 -- what each call hands on
-found-is : (c : tie.After-find_lines-n) → take (c.find_lines-n.result - 0) c.find_lines-n.new.lines ≡ lines_of (list c)
+found-is : (c : tie.After-find_lines-n) → take (c.find_lines-n.result - 0) c.find_lines-n.new.lines ≡ lines_of c.args.s.now
 found-is c = part-is c.find_lines-n.ensures.0 c.find_lines-n.ensures.1
 
-gaps-count : (c : tie.After-wide_gaps-m) → c.wide_gaps-m.result ≡ length (wide_gaps (lines_of (list c.before.before.before.before.before.before.before)))
+gaps-count : (c : tie.After-wide_gaps-m) → c.wide_gaps-m.result ≡ length (wide_gaps (lines_of c.args.s.now))
 gaps-count c = rw (found-is c.before.before.before.before.before.before.before) at c.wide_gaps-m.ensures.0
 
-gaps-are : (c : tie.After-wide_gaps-m) → take (c.wide_gaps-m.result - 0) c.wide_gaps-m.new.out ≡ wide_gaps (lines_of (list c.before.before.before.before.before.before.before))
+gaps-are : (c : tie.After-wide_gaps-m) → take (c.wide_gaps-m.result - 0) c.wide_gaps-m.new.out ≡ wide_gaps (lines_of c.args.s.now)
 gaps-are c = part-is (gaps-count c) (rw (found-is c.before.before.before.before.before.before.before) at c.wide_gaps-m.ensures.1)
 
-e-is : (c : tie.After-chosen_gap-e) → c.chosen_gap-e.result ≡ estimate (lines_of (list c.before.before.before.before.before.before.before.before.before.before.before.before))
-e-is c = (rw (gaps-are c.before.before.before.before.before) at c.chosen_gap-e.ensures) ∙ estimate_is (lines_of (list c.before.before.before.before.before.before.before.before.before.before.before.before))
+e-is : (c : tie.After-chosen_gap-e) → c.chosen_gap-e.result ≡ estimate (lines_of c.args.s.now)
+e-is c = (rw (gaps-are c.before.before.before.before.before) at c.chosen_gap-e.ensures) ∙ estimate_is (lines_of c.args.s.now)
 
 -- the lines fit into the array, and the gaps into the scratch
 found-fits : (c : tie.After-find_lines-n) → c.find_lines-n.result ≤ length c.find_lines-n.new.lines
@@ -48,7 +44,7 @@ gaps-fit c =
     omega (arith, gaps-count c, front_fits h)
 
 -- what each test shows
-some : (c : tie.Else-m-eq0) → 0 < length (wide_gaps (lines_of (list c.before.before.before.before.before.before.before.before.before.before)))
+some : (c : tie.Else-m-eq0) → 0 < length (wide_gaps (lines_of c.args.s.now))
 some c = omega (arith, gaps-count c.before.before.before, c.if-m-eq0.false)
 
 find-lines-requires : tie.Need-find_lines-n-requires
@@ -65,8 +61,7 @@ part-wide-gaps-end c = found-fits c.before.before.before.before
 
 wide-gaps-requires : tie.Need-wide_gaps-m-requires
 wide-gaps-requires c κs =
-    let found = c in
-    rw (found-is c.before.before.before.before.before.before) (omega (arith, lines_few (list c.before.before.before.before.before.before), found.requires.1, found.find_lines-n.auto))
+    rw (found-is c.before.before.before.before.before.before) (omega (arith, lines_few c.args.s.now, c.requires.1, c.find_lines-n.auto))
 
 same_length : tie.Need-shape_of-scratch-then-m-eq0
 same_length c = search rules
@@ -76,8 +71,7 @@ same-length-2 c = search rules
 
 returns : tie.Need-returns-then-m-eq0
 returns c =
-    let gaps = c in
-    (no_gap (lines_of (list c.before.before.before.before.before.before.before.before.before.before)) (omega (arith, gaps-count c.before.before.before, c.if-m-eq0.true)), omega arith)
+    (no_gap (lines_of c.args.s.now) (omega (arith, gaps-count c.before.before.before, c.if-m-eq0.true)), omega arith)
 
 sub-chosen-gap : tie.Need-slice_bounds-chosen_gap-count
 sub-chosen-gap c = search rules
@@ -90,9 +84,8 @@ part-chosen-gap-end c = gaps-fit c.before.before.before
 
 chosen-gap-requires : tie.Need-chosen_gap-e-requires
 chosen-gap-requires c κs =
-    let gaps = c in
-    let s = list c.before.before.before.before.before.before.before.before.before.before.before in
-    let long = gaps.requires.0.longest in
+    let s = c.args.s.now in
+    let long = c.requires.0.longest in
     rw (gaps-are c.before.before.before.before) (omega (arith, long, gaps_few (lines_of s), lines_few s), omega (arith, long, gaps_low s))
 
 same-length-3 : tie.Need-shape_of-scratch-then-e-ge-WIDE
@@ -103,8 +96,7 @@ same-length-4 c = search rules
 
 returns-2 : tie.Need-returns-then-e-ge-WIDE
 returns-2 c =
-    let chosen = c in
-    let lines = lines_of (list c.before.before.before.before.before.before.before.before.before.before.before.before.before) in
+    let lines = lines_of c.args.s.now in
     (too_wide lines (some c.before.before.before) (omega (arith, e-is c.before, c.if-e-ge-WIDE.true)), omega arith)
 
 sub-kept-range : tie.Need-slice_bounds-kept_range-count
@@ -118,9 +110,7 @@ part-kept-range-end c = found-fits c.before.before.before.before.before.before.b
 
 kept-range-requires : tie.Need-kept_range-kept-requires
 kept-range-requires c κs =
-    let near = c in
-    let found = c in
-    rw (found-is c.before.before.before.before.before.before.before.before.before.before.before.before.before.before) (omega (arith, lines_low (list c.before.before.before.before.before.before.before.before.before.before.before.before.before.before), found.requires.0.longest), omega (arith, near.if-e-ge-WIDE.false))
+    rw (found-is c.before.before.before.before.before.before.before.before.before.before.before.before.before.before) (omega (arith, lines_low c.args.s.now, c.requires.0.longest), omega (arith, c.if-e-ge-WIDE.false))
 
 same-length-5 : tie.Need-shape_of-scratch
 same-length-5 c = search rules
@@ -130,13 +120,11 @@ same-length-6 c = search rules
 
 returns-3 : tie.Need-returns
 returns-3 c =
-    let near = c in
-    let found = c in
-    let e = near.chosen_gap-e.result in
+    let e = c.chosen_gap-e.result in
     let kept = c.kept_range-kept.result in
-    let left : Remains e (lines_of (list c.before.before.before.before.before.before.before.before.before.before.before.before.before.before.before)) kept.from kept.end = rw (found-is c.before.before.before.before.before.before.before.before.before.before.before.before.before.before.before) at c.kept_range-kept.ensures in
-    standing (list c.before.before.before.before.before.before.before.before.before.before.before.before.before.before.before) found.requires.0 found.find_lines-n.ensures.1 left (e-is c.before.before.before)
-    (some c.before.before.before.before.before) (omega (arith, near.if-e-ge-WIDE.false))
+    let left : Remains e (lines_of c.args.s.now) kept.from kept.end = rw (found-is c.before.before.before.before.before.before.before.before.before.before.before.before.before.before.before) at c.kept_range-kept.ensures in
+    standing c.args.s.now c.requires.0 c.find_lines-n.ensures.1 left (e-is c.before.before.before)
+    (some c.before.before.before.before.before) (omega (arith, c.if-e-ge-WIDE.false))
 
 pub remaining_of_spec : {M : Type 1} → statement M
 remaining_of_spec =

@@ -17,9 +17,7 @@ pixels-requires c κs = search rules
 
 values-of-requires : tie.Need-values_of-requires
 values-of-requires c κs =
-    let read = c in
-    let header = c in
-    let shown = rw (sym header.header.ensures ∙ read.in-Sides.is) at (header_shown header.args.bytes.now) in
+    let shown = rw (sym c.header.ensures ∙ c.in-Sides.is) at (header_shown c.args.bytes.now) in
     (shown.0, shown.1)
 
 enum-known-n : tie.Need-enum_known-n
@@ -30,16 +28,12 @@ alone-requires c κs = search rules
 
 returns : tie.Need-returns-in-Sides
 returns c =
-    let read = c in
-    let header = c in
-    let is = sym header.header.ensures ∙ read.in-Sides.is in
-    c.values_of.ensures ∙ for_sides header.args.bytes.now is c.pixels.ensures
+    let is = sym c.header.ensures ∙ c.in-Sides.is in
+    c.values_of.ensures ∙ for_sides c.args.bytes.now is c.pixels.ensures
 
 returns-2 : tie.Need-returns-in-Refused
 returns-2 c =
-    let read = c in
-    let header = c in
-    c.alone.ensures ∙ for_refusal header.args.bytes.now (sym header.header.ensures ∙ read.in-Refused.is)
+    c.alone.ensures ∙ for_refusal c.args.bytes.now (sym c.header.ensures ∙ c.in-Refused.is)
 
 pub answer_to_spec : {M : Type 1} → statement M
 answer_to_spec =

@@ -28,9 +28,7 @@ same_length c = search rules
 
 returns : tie.Need-returns
 returns c =
-    let called = c in
-    let start = c in
-    locates called.get_pos_pixel.ensures.0 start.requires.0 start.requires.1 start.requires.2 refl refl refl refl refl
+    locates c.get_pos_pixel.ensures.0 c.requires.0 c.requires.1 c.requires.2 refl refl refl refl refl
 
 pub locate_shown_spec : {M : Type 1} → statement M
 locate_shown_spec =

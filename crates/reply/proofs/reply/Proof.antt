@@ -30,10 +30,8 @@ same_length c = search rules
 
 returns : tie.Need-returns
 returns c =
-    let written = c in
-    let values = c in
-    let lines = written.write_lines.ensures in (
-      λ input e. rw (values.answer_to-values.ensures ∙ sym (ap answer_to e) ∙ enough input) at lines,
+    let lines = c.write_lines.ensures in (
+      λ input e. rw (c.answer_to-values.ensures ∙ sym (ap answer_to e) ∙ enough input) at lines,
       omega (arith, lines.0, front_fits lines.1),
     )
 

@@ -7,7 +7,6 @@ use borrow.Author.Rules.{rules}
 use Rattle.reply.proofs.values_of.Statement.{statement}
 use Rattle.reply.proofs.values_of.Tie as tie
 
--- where loading has answered, and where it began
 mul-n : tie.Need-overflow_mul-n
 mul-n c = omega (arith, area c.requires.0 c.requires.1)
 
@@ -28,39 +27,28 @@ alone-requires c κs = search rules
 
 returns : tie.Need-returns-then-loaded-ne0
 returns c =
-    let loaded = c in
-    let start = c in
-    c.alone.ensures ∙ refused loaded.new-loaded.ensures (size start.requires.0 start.requires.1) c.if-loaded-ne0.true
+    c.alone.ensures ∙ refused c.new-loaded.ensures (size c.requires.0 c.requires.1) c.if-loaded-ne0.true
 
 array-borrow-prefix-planes-2 : tie.Need-slice_bounds-planes-end-2
 array-borrow-prefix-planes-2 c =
-    let loaded = c in
-    let start = c in
-    inside loaded.new-loaded.ensures (size start.requires.0 start.requires.1) c.if-loaded-ne0.false _
+    inside c.new-loaded.ensures (size c.requires.0 c.requires.1) c.if-loaded-ne0.false _
 
 slice-aggregate-locate-shown : tie.Need-slice_bounds-locate_shown-end
 slice-aggregate-locate-shown c =
-    let loaded = c in
-    let start = c in
-    lent_length loaded.new-loaded.ensures (size start.requires.0 start.requires.1) c.if-loaded-ne0.false _
+    lent_length c.new-loaded.ensures (size c.requires.0 c.requires.1) c.if-loaded-ne0.false _
 
 locate-shown-requires : tie.Need-locate_shown-requires
 locate-shown-requires c κs =
-    let loaded = c in
-    let start = c in
-    lent_fit loaded.new-loaded.ensures (size start.requires.0 start.requires.1) c.if-loaded-ne0.false _
-    (λ k. omega (arith, loaded.shared_slice_known-1.given k)) start.requires.0 start.requires.1
+    lent_fit c.new-loaded.ensures (size c.requires.0 c.requires.1) c.if-loaded-ne0.false _
+    (λ k. omega (arith, c.shared_slice_known-1.given k)) c.requires.0 c.requires.1
 
 located-requires : tie.Need-located-requires
 located-requires c κs = search rules
 
 returns-2 : tie.Need-returns
 returns-2 c =
-    let called = c in
-    let loaded = c in
-    let start = c in
-    let sized = size start.requires.0 start.requires.1 in
-    c.located.ensures ∙ prints loaded.new-loaded.ensures sized called.if-loaded-ne0.false _ called.locate_shown.ensures
+    let sized = size c.requires.0 c.requires.1 in
+    c.located.ensures ∙ prints c.new-loaded.ensures sized c.if-loaded-ne0.false _ c.locate_shown.ensures
 
 pub values_of_spec : {M : Type 1} → statement M
 values_of_spec =

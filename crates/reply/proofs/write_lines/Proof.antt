@@ -21,8 +21,7 @@ put-bytes-requires c κs = omega (arith, whole c.before.before.before.before.bef
 
 put-numbers-requires : tie.Need-put_numbers-requires
 put-numbers-requires c κs =
-    let put = c in
-    omega (arith, whole c.before.before.before.before.before.before.before.before.before, put.put_bytes-next.ensures.next_is, put.put_bytes-next.ensures.placed.len)
+    omega (arith, whole c.before.before.before.before.before.before.before.before.before, c.put_bytes-next.ensures.next_is, c.put_bytes-next.ensures.placed.len)
 
 same_length : tie.Need-shape_of-out
 same_length c = search rules
@@ -30,9 +29,8 @@ same_length c = search rules
 returns : tie.Need-returns
 unfolding text_of
 returns c =
-    let put = c in
-    let names = put.put_bytes-next.ensures in
-    let m : put.put_bytes-next.result ≤ length put.args.out.now = omega (arith, whole c.before.before.before.before.before.before.before.before.before.before.before.before, names.next_is) in
+    let names = c.put_bytes-next.ensures in
+    let m : c.put_bytes-next.result ≤ length c.args.out.now = omega (arith, whole c.before.before.before.before.before.before.before.before.before.before.before.before, names.next_is) in
     let both = puts_join names c.put_numbers.ensures m in
     (both.next_is ∙ zero-add _, placed_start both.placed)
 

@@ -9,7 +9,6 @@ use Rattle.sample.proofs.Answers.{NumbersIn, numbers_in, decided}
 use Rattle.sample.proofs.cell_answer.Statement.{statement}
 use Rattle.sample.proofs.cell_answer.Tie as tie
 
--- the places that the others follow: the start, and the tests that were passed
 pitches : (c : tie.Else-pitch_outside) → let b = c.args.b in (pitch_outside b.pixelr || pitch_outside b.pixelc) ≡ false
 pitches c = rw (sym c.pitch_outside.ensures, sym c.pitch_outside-2.ensures) c.if-pitch_outside.false
 
@@ -27,7 +26,6 @@ on-board c = sym c.on_board.ensures ∙ c.if-not-on_board.false
 places : (c : tie.After-inside-2) → let s = c.args in
     cell_answer s.b s.x s.y s.size s.room ≡ cond (c.inside.result && c.inside-2.result) 0 12
 places c =
-    let at = c in
     rw (c.inside.ensures, c.inside-2.ensures)
     (decided _ _ _ _ _ (pitches c.before.before.before.before.before.before.before) (above c.before.before.before.before.before) (on-board c.before.before.before) c.if-room-size.false)
 
@@ -54,7 +52,6 @@ on-board-requires c κs = tt
 returns-3 : tie.Need-returns-then-not-on_board
 unfolding cell_answer
 returns-3 c =
-    let at = c in
     rw (pitches c.before.before.before.before, above c.before.before, sym c.on_board.ensures ∙ c.if-not-on_board.true)
 
 mul-if4 : tie.Need-overflow_mul-size
@@ -66,7 +63,6 @@ mul-if4-2 c = omega (arith, (numbers c.before.before).fits)
 returns-4 : tie.Need-returns-then-room-size
 unfolding cell_answer
 returns-4 c =
-    let at = c in
     rw (pitches c.before.before.before.before.before, above c.before.before.before, on-board c.before, lt-ltb _ _ c.if-room-size.true)
 
 inside-requires : tie.Need-inside-requires

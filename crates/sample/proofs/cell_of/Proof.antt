@@ -15,8 +15,7 @@ same_length c = search rules
 
 returns : tie.Need-returns-then-answer-eq0
 returns c =
-    let test = c in
-    cell_copied _ _ _ _ _ _ _ _ test.cell_answer-answer.ensures test.if-answer-eq0.true c.copy_cell.ensures
+    cell_copied _ _ _ _ _ _ _ _ c.cell_answer-answer.ensures c.if-answer-eq0.true c.copy_cell.ensures
 
 returns-2 : tie.Need-returns-else-answer-eq0
 returns-2 c = cell_refused _ _ _ _ _ _ _ c.cell_answer-answer.ensures c.if-answer-eq0.false

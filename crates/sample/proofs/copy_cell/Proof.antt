@@ -20,7 +20,6 @@ invariant-loop b planes x y size out₀ rows columns k₀ out k = (k ≤ 3) × A
 abbrev decreases-loop : tie.decreases-loop-k
 decreases-loop b planes x y size out₀ rows columns k₀ out k = 3 - k
 
--- the places that the others follow: the start, and the places of the cell
 fits : (c : tie.After-slice_known-1 invariant-loop decreases-loop) → let s = c.args in
     CellIn s.b s.x s.y s.size (length s.out.now)
 fits c = cell_in _ _ _ _ _ c.requires.1
@@ -61,11 +60,9 @@ mul-copy-plane-4 c = omega (arith, room c.before.before.before.before)
 
 copy-plane-requires : tie.Need-copy_plane-requires invariant-loop decreases-loop
 copy-plane-requires c κs =
-    let turn = c in
-    let s = c in
     let here = placed c.before.before.before.before.before.before in (
       (here.fit.numbers.down.size_in, omega (arith, room c.before.before.before.before)),
-      λ i j i-in j-in. place_in s.args.planes.now here turn.loop-k.k i j s.requires.0 (omega arith) i-in j-in,
+      λ i j i-in j-in. place_in c.args.planes.now here c.loop-k.k i j c.requires.0 (omega arith) i-in j-in,
     )
 
 add-k : tie.Need-overflow_step-k invariant-loop decreases-loop
@@ -76,11 +73,10 @@ loop-less c = search rules
 
 loop-again : tie.Need-loop-k-preserved invariant-loop decreases-loop
 loop-again c =
-    let at = c in
-    let s = at.args in (
+    let s = c.args in (
       omega arith,
-      front_row (cell_plane s.b s.planes.now s.x s.y s.size) at.loop-k.k (s.size * s.size) at.loop-k.invariant.1
-          (rw (plane_is s.planes.now (placed c.before.before.before.before.before.before.before.before.before) at.loop-k.k) at c.copy_plane.ensures),
+      front_row (cell_plane s.b s.planes.now s.x s.y s.size) c.loop-k.k (s.size * s.size) c.loop-k.invariant.1
+          (rw (plane_is s.planes.now (placed c.before.before.before.before.before.before.before.before.before) c.loop-k.k) at c.copy_plane.ensures),
     )
 
 same_length : tie.Need-shape_of-out invariant-loop decreases-loop

@@ -21,7 +21,6 @@ invariant-loop planes from width rows columns size out₀ to i₀ out i =
 abbrev decreases-loop : tie.decreases-loop-i
 decreases-loop planes from width rows columns size out₀ to i₀ out i = size - i
 
--- the place that the others follow
 read : (c : tie.In-loop-i invariant-loop decreases-loop) → let s = c.args in
     s.from + get_or s.rows.now c.loop-i.i 0 * s.width < length s.planes.now
 read c =
@@ -54,12 +53,10 @@ add-copy-row-2 : tie.Need-overflow_add-to invariant-loop decreases-loop
 add-copy-row-2 c = omega (arith, room c.before.before.before)
 
 copy-row-requires : tie.Need-copy_row-requires invariant-loop decreases-loop
-copy-row-requires c κs =
-    let turn = c in
-    let s = c in (
-      (s.requires.0.0, omega (arith, room c.before.before.before)),
-      λ j b. s.requires.1 turn.loop-i.i j turn.loop-i-test.true b,
-    )
+copy-row-requires c κs = (
+  (c.requires.0.0, omega (arith, room c.before.before.before)),
+  λ j b. c.requires.1 c.loop-i.i j c.loop-i-test.true b,
+)
 
 add-i : tie.Need-overflow_step-i invariant-loop decreases-loop
 add-i c = search rules
@@ -69,9 +66,8 @@ loop-less c = search rules
 
 loop-again : tie.Need-loop-i-preserved invariant-loop decreases-loop
 loop-again c =
-    let turn = c in
-    let at = turn.loop-i in
-    let size = turn.args.size in (
+    let at = c.loop-i in
+    let size = c.args.size in (
       omega arith,
       placed_row _ _ at.i size at.invariant.1 c.copy_row.ensures refl (omega (arith, room c.before.before.before.before.before.before))
           (λ j b. rw (digits_div at.i b, digits_mod at.i b)),

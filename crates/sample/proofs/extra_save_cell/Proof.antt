@@ -10,7 +10,6 @@ use borrow.Author.Rules.{rules}
 use Rattle.sample.proofs.extra_save_cell.Statement.{statement}
 use Rattle.sample.proofs.extra_save_cell.Tie as tie
 
--- no answer of their own
 fit-planes : (c : tie.Else-refusal-ne0) → let a = c.args in
     planes_answer least_plane_side a.b.height a.b.width a.planes.now false ≡ 0
 fit-planes c = sym c.planes_answer-refusal.ensures ∙ c.if-refusal-ne0.false
@@ -29,8 +28,7 @@ same_length c = search rules
 
 returns-2 : tie.Need-returns
 returns-2 c =
-    let done = c in
-    handed_on _ _ _ _ _ _ _ _ (fit-planes c.before.before.before.before) done.cell_of.ensures
+    handed_on _ _ _ _ _ _ _ _ (fit-planes c.before.before.before.before) c.cell_of.ensures
 
 pub extra_save_cell_spec : {M : Type 1} → statement M
 extra_save_cell_spec =

@@ -19,10 +19,7 @@ same-length-2 c = search rules
 
 returns : tie.Need-returns
 returns c =
-    let put = c in
-    let selected = c in
-    let s = c in
-    rw (← tab_same s.args.m _ _ (λ l d. selected.select.ensures l (omega (arith, s.requires.0.2)) (s.requires.1 l d))) put.put.ensures
+    rw (← tab_same c.args.m _ _ (λ l d. c.select.ensures l (omega (arith, c.requires.0.2)) (c.requires.1 l d))) c.put.ensures
 
 pub medians_spec : {M : Type 1} → statement M
 medians_spec = tie.close (tie.spec select-requires put-requires same_length same-length-2 returns)

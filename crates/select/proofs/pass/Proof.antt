@@ -32,7 +32,6 @@ start-requires c κs = search rules
 add-k : tie.Need-overflow_step-k invariant-loop decreases-loop
 add-k c = search rules
 
--- the place that the others follow
 loop-holds : tie.Need-loop-k-init invariant-loop decreases-loop
 loop-holds c =
     let s = c.args.s in
@@ -63,9 +62,8 @@ loop-less c = search rules
 
 loop-again : tie.Need-loop-k-preserved invariant-loop decreases-loop
 loop-again c =
-    let at = c in
-    let s = at.args.s in
-    let k = at.loop-k.k in
+    let s = c.args.s in
+    let k = c.loop-k.k in
     let E = c.sift.ensures in
     let m : k + 1 - (s + 2) ≡ k - (s + 2) + 1 = omega arith in
     let e : k ≡ s + 2 + (k - (s + 2)) = omega arith in (
@@ -76,7 +74,7 @@ loop-again c =
       search rules,
       λ l h u.
           rw m
-          (sifting_more k e (at.loop-k.invariant.5 l h u) (u k (omega arith) (omega arith))
+          (sifting_more k e (c.loop-k.invariant.5 l h u) (u k (omega arith) (omega arith))
           (E.low l h)
           (E.high l h)
           (E.here l h)
@@ -89,10 +87,9 @@ same_length c = search rules
 
 returns : tie.Need-returns invariant-loop decreases-loop
 returns c =
-    let at = c in
-    let a = at.args in
-    let e : a.e ≡ a.s + 2 + (at.loop-k.k - (a.s + 2)) = omega arith in
-    λ l h u. sifting_all e (at.loop-k.invariant.5 l h u)
+    let a = c.args in
+    let e : a.e ≡ a.s + 2 + (c.loop-k.k - (a.s + 2)) = omega arith in
+    λ l h u. sifting_all e (c.loop-k.invariant.5 l h u)
 
 pub pass_spec : {M : Type 1} → statement M
 pass_spec =

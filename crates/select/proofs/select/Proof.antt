@@ -19,9 +19,6 @@ abbrev decreases-loop : tie.decreases-loop-t
 decreases-loop n x₀ t₀ t-end x t = (n - 1) / 2 - t
 
 -- the place that the others follow
-abbrev at-start : tie.At-loop-t invariant-loop decreases-loop → tie.Start invariant-loop decreases-loop
-at-start c = c.before.before
-
 sub-t-end : tie.Need-overflow_sub-t-end invariant-loop decreases-loop
 sub-t-end c = search rules
 
@@ -49,7 +46,7 @@ loop-less c = search rules
 loop-again : tie.Need-loop-t-preserved invariant-loop decreases-loop
 loop-again c =
     let at = c.before.before.before.before.before in
-    let t : at.loop-t.t < ((at-start at).args.n - 1) / 2 = omega arith in (
+    let t : at.loop-t.t < (at.before.before.args.n - 1) / 2 = omega arith in (
       omega arith,
       refl,
       search rules,
@@ -64,8 +61,8 @@ same_length c = search rules
 returns : tie.Need-returns invariant-loop decreases-loop
 returns c =
     let at = c.before in
-    let e : at.loop-t.t ≡ ((at-start at).args.n - 1) / 2 = omega arith in
-    λ l h u. left_all (at-start at).requires.0 u (rw e at (at.loop-t.invariant.3 l h u))
+    let e : at.loop-t.t ≡ (at.before.before.args.n - 1) / 2 = omega arith in
+    λ l h u. left_all at.before.before.requires.0 u (rw e at (at.loop-t.invariant.3 l h u))
 
 pub select_spec : {M : Type 1} → statement M
 select_spec =

@@ -33,9 +33,6 @@ abbrev decreases-loop : tie.decreases-loop-l
 decreases-loop x₀ k lo₀ hi₀ l₀ x lo hi l = list_count - l
 
 -- the place that the others follow
-abbrev at-start : tie.At-loop-l invariant-loop decreases-loop → tie.Start invariant-loop decreases-loop
-at-start c = c.before.before.before.before
-
 loop-holds : tie.Need-loop-l-init invariant-loop decreases-loop
 loop-holds c = (omega arith, front_none, front_none, placed_none)
 
@@ -112,7 +109,7 @@ loop-again c =
     let i = at.loop-l.invariant in
     let A = front_beyond nan l i.1 (rw length_tab_from (omega arith)) in
     let B = front_beyond nan l i.2 (rw length_tab_from (omega arith)) in
-    let Y = placed_behind nan _ l i.3 (omega arith) ((at-start at).args.k * list_count + l) (omega arith) in
+    let Y = placed_behind nan _ l i.3 (omega arith) (at.before.before.before.before.args.k * list_count + l) (omega arith) in
     let t = c.before.before.before.larger-t.ensures in (
       omega arith,
       front_more _ l i.1 (omega arith) (c.before.before.lesser.ensures ∙ rw (A, Y)),

@@ -10,7 +10,6 @@ use borrow.Author.Rules.{rules}
 use Rattle.strips.proofs.band_scores.Statement.{statement}
 use Rattle.strips.proofs.band_scores.Tie as tie
 
--- the places that the others follow
 sub-n : tie.Need-overflow_sub-n
 sub-n c = search rules
 
@@ -60,13 +59,11 @@ same-length-2 c = search rules
 
 returns : tie.Need-returns
 returns c =
-    let swept = c in
-    let turn = c in
-    let a = turn.args in
-    let u = turn.turn.ensures in
+    let a = c.args in
+    let u = c.turn.ensures in
     let n = a.to - a.from + 1 in
     let b = length a.out.now + 4 in
-    swept.sweep_scores.ensures
+    c.sweep_scores.ensures
     ∙ tab_same (length a.out.now) _ _
     (λ i h. turned_score a.e.now a.r a.stride a.from n b _ _ u a.to (omega arith) i (omega arith))
 

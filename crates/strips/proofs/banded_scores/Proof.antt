@@ -22,7 +22,6 @@ invariant-loop e stride from to r turned₀ out₀ i₀ turned out i =
 abbrev decreases-loop : tie.decreases-loop-i
 decreases-loop e stride from to r turned₀ out₀ i₀ turned out i = length out₀ - i
 
--- the places that the others follow
 loop-holds : tie.Need-loop-i-init invariant-loop decreases-loop
 loop-holds c = (omega arith, refl, front_none)
 
@@ -77,9 +76,8 @@ loop-less c = search rules
 
 loop-again : tie.Need-loop-i-preserved invariant-loop decreases-loop
 loop-again c =
-    let lent = c in
-    let l = lent.loop-i in
-    let m = lent.shorter.result in (
+    let l = c.loop-i in
+    let m = c.shorter.result in (
       omega arith,
       search rules,
       front_band _ _ l.i m (l.i + m - l.i) l.invariant.2 (part c.before.before.before.before.before) (omega arith) c.band_scores.ensures

@@ -9,7 +9,6 @@ use borrow.Author.Rules.{rules}
 use Rattle.strips.proofs.column_scores.Statement.{statement}
 use Rattle.strips.proofs.column_scores.Tie as tie
 
--- the places that the others follow
 counted : (c : tie.After-place_count-last) → let b = c.args.b in c.place_count-last.result ≡ place_count b.c_1 b.c_2
 counted c = c.place_count-last.ensures
 
@@ -42,16 +41,16 @@ sweep-scores-requires c κs = search (rules, enough c.before, not_more c.before,
 
 border-scores-requires : tie.Need-border_scores-requires
 border-scores-requires c κs =
-    let n = c in
-    search (rules, enough c.before.before.before.before.before, fits c.before.before.before.before.before)
+    let past = c.before.before.before.before.before in
+    search (rules, enough past, fits past)
 
 same_length : tie.Need-shape_of-out
 same_length c = search rules
 
 returns : tie.Need-returns
 returns c =
-    let swept = c in
-    joined _ _ _ _ _ _ _ _ _ (counted c.before.before.before.before.before.before.before.before) (omega (arith, enough c.before.before.before.before.before.before.before.before)) (fits c.before.before.before.before.before.before.before.before) swept.sweep_scores.ensures
+    let past = c.before.before.before.before.before.before.before.before in
+    joined _ _ _ _ _ _ _ _ _ (counted past) (omega (arith, enough past)) (fits past) c.sweep_scores.ensures
     c.border_scores.ensures
 
 pub column_scores_spec : {M : Type 1} → statement M

@@ -11,7 +11,6 @@ use borrow.Author.Rules.{rules}
 use Rattle.strips.proofs.row_scores.Statement.{statement}
 use Rattle.strips.proofs.row_scores.Tie as tie
 
--- the places that the others follow
 counted : (c : tie.After-place_count-last) → let b = c.args.b in c.place_count-last.result ≡ place_count b.r_1 b.r_2
 counted c = c.place_count-last.ensures
 
@@ -41,21 +40,20 @@ part-banded-scores-end c = search (rules, fits c.before)
 
 banded-scores-requires : tie.Need-banded_scores-requires
 banded-scores-requires c κs =
-    let n = c in
-    let p = n.requires in (
+    let p = c.requires in (
       omega arith,
       omega arith,
       omega arith,
       simp length-take (strips_in _ _ _ _ _ _ (omega (arith, enough c.before.before, not_more c.before.before)) p.0.inside p.0.whole),
-      simp length-take (scratch_in _ _ n.place_count-last.result _ (omega (arith, enough c.before.before)) (rw (counted c.before.before) p.1)),
+      simp length-take (scratch_in _ _ c.place_count-last.result _ (omega (arith, enough c.before.before)) (rw (counted c.before.before) p.1)),
       p.0.marks,
     )
 
 border-scores-requires : tie.Need-border_scores-requires
 border-scores-requires c κs =
-    let n = c in
-    let p = n.requires in
-    (omega arith, omega arith, omega arith, p.0.marks, p.0.rows, search (rules, enough c.before.before.before.before.before.before.before.before, fits c.before.before.before.before.before.before.before.before))
+    let past = c.before.before.before.before.before.before.before.before in
+    let p = c.requires in
+    (omega arith, omega arith, omega arith, p.0.marks, p.0.rows, search (rules, enough past, fits past))
 
 same_length : tie.Need-shape_of-turned
 same_length c = search rules
@@ -65,11 +63,10 @@ same-length-2 c = search rules
 
 returns : tie.Need-returns
 returns c =
-    let banded = c in
-    let n = c in
-    let a = n.args in
+    let past = c.before.before.before.before.before.before.before.before.before.before.before in
+    let a = c.args in
     rw (flip_points a.stride 1 a.edges.now)
-    (joined _ _ _ _ _ _ _ _ _ (counted c.before.before.before.before.before.before.before.before.before.before.before) (omega (arith, enough c.before.before.before.before.before.before.before.before.before.before.before)) (fits c.before.before.before.before.before.before.before.before.before.before.before) banded.banded_scores.ensures c.border_scores.ensures)
+    (joined _ _ _ _ _ _ _ _ _ (counted past) (omega (arith, enough past)) (fits past) c.banded_scores.ensures c.border_scores.ensures)
 
 pub row_scores_spec : {M : Type 1} → statement M
 row_scores_spec =

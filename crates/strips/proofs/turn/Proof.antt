@@ -15,7 +15,6 @@ invariant-loop e first stride n t₀ b i₀ t i = (i ≤ b) × Turned e first st
 abbrev decreases-loop : tie.decreases-loop-i
 decreases-loop e first stride n t₀ b i₀ t i = b - i
 
--- the places that the others follow
 loop-holds : tie.Need-loop-i-init invariant-loop decreases-loop
 loop-holds c = (omega arith, turned_start _ _ _)
 
@@ -44,8 +43,7 @@ loop-less c = search rules
 
 loop-again : tie.Need-loop-i-preserved invariant-loop decreases-loop
 loop-again c =
-    let rows = c in
-    (omega arith, turned_more rows.loop-i.invariant.1 rows.turn_rows.ensures)
+    (omega arith, turned_more c.loop-i.invariant.1 c.turn_rows.ensures)
 
 rest : (c : tie.After-loop-i invariant-loop decreases-loop) →
     let a = c.args in
@@ -69,11 +67,10 @@ same_length c = search rules
 
 returns : tie.Need-returns invariant-loop decreases-loop
 returns c =
-    let rows = c in
-    let l = rows.loop-i in
-    let b = rows.args.b in
+    let l = c.loop-i in
+    let b = c.args.b in
     let e : l.i + (b - l.i) ≡ b = omega arith in
-    rw e at (turned_more l.invariant.1 rows.turn_rows-2.ensures)
+    rw e at (turned_more l.invariant.1 c.turn_rows-2.ensures)
 
 pub turn_spec : {M : Type 1} → statement M
 turn_spec =

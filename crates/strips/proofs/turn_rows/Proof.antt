@@ -15,7 +15,6 @@ invariant-loop e first stride n t₀ b i w j₀ t j = (j ≤ n) × Turned e firs
 abbrev decreases-loop : tie.decreases-loop-j
 decreases-loop e first stride n t₀ b i w j₀ t j = n - j
 
--- the places that the others follow
 loop-holds : tie.Need-loop-j-init invariant-loop decreases-loop
 loop-holds c = (omega arith, turned_none _ _ _ _)
 
@@ -44,8 +43,7 @@ loop-less c = search rules
 
 loop-again : tie.Need-loop-j-preserved invariant-loop decreases-loop
 loop-again c =
-    let row = c in
-    (omega arith, turned_row row.loop-j.invariant.1 (omega arith) row.copy_down.ensures)
+    (omega arith, turned_row c.loop-j.invariant.1 (omega arith) c.copy_down.ensures)
 
 same_length : tie.Need-shape_of-t invariant-loop decreases-loop
 same_length c = search rules

@@ -22,9 +22,6 @@ abbrev decreases-loop : tie.decreases-loop-k
 decreases-loop out₀ at numbers next₀ k₀ k-end out next k = length numbers - k
 
 -- the places that the others follow, and the numbers
-abbrev at_some : tie.At-loop-k invariant-loop decreases-loop → tie.Else-numbers-eq0 invariant-loop decreases-loop
-at_some c = c.before.before.before.before.before.before
-
 abbrev numbers : tie.Else-numbers-eq0 invariant-loop decreases-loop → List ℕ
 numbers c = c.before.before.before.args.numbers.now
 
@@ -78,7 +75,7 @@ shared-slice-read-put-next c = search rules
 put-next-requires : tie.Need-put_next-next-requires invariant-loop decreases-loop
 put-next-requires c κs =
     let at = c.before.before.before in
-    let ns = numbers (at_some at) in
+    let ns = numbers at.before.before.before.before.before.before in
     let k = at.loop-k.k in
     let p = rw (line_next ns k (omega arith)) at at.loop-k.invariant.2 in
     partly_room (32 ∷ decimal (get_or ns k 0)) (following (drop (k + 1) ns) ++ (10 ∷ [])) p
@@ -92,14 +89,14 @@ loop-less c = search rules
 loop-again : tie.Need-loop-k-preserved invariant-loop decreases-loop
 loop-again c =
     let at = c.before.before.before.before.before.before in
-    let ns = numbers (at_some at) in
+    let ns = numbers at.before.before.before.before.before.before in
     let p = rw (line_next ns at.loop-k.k (omega arith)) at at.loop-k.invariant.2 in
     (omega arith, refl, partly_more (32 ∷ decimal (get_or ns at.loop-k.k 0)) p c.before.before.put_next-next.ensures)
 
 put-feed-requires-2 : tie.Need-put_feed-requires-2 invariant-loop decreases-loop
 put-feed-requires-2 c κs =
     let at = c.before.before in
-    let p = rw (drop_of_length-le (numbers (at_some at)) {i = at.loop-k.k} (omega arith)) at at.loop-k.invariant.2 in
+    let p = rw (drop_of_length-le (numbers at.before.before.before.before.before.before) {i = at.loop-k.k} (omega arith)) at at.loop-k.invariant.2 in
     omega (arith, partly_room (10 ∷ []) [] p)
 
 same-length-2 : tie.Need-shape_of-out invariant-loop decreases-loop
@@ -108,7 +105,7 @@ same-length-2 c = search rules
 returns-2 : tie.Need-returns invariant-loop decreases-loop
 returns-2 c =
     let at = c.before.before.before.before.before in
-    let has = at_some at in
+    let has = at.before.before.before.before.before.before in
     let put = at.before.before.before.put_number-next.ensures in
     let p = rw (drop_of_length-le (numbers has) {i = at.loop-k.k} (omega arith)) at at.loop-k.invariant.2 in
     rw (line_first (numbers has) (some has))

@@ -29,8 +29,7 @@ cast-ahead c = omega (arith, c.shared_slice_known-in-loop-o-1.given c.loop-o.o)
 
 ahead-requires : tie.Need-ahead-w-requires invariant-loop decreases-loop
 ahead-requires c κs =
-    let start = c in
-    picks_low start.args.q c.loop-o.invariant.1 start.requires.1 (omega arith)
+    picks_low c.args.q c.loop-o.invariant.1 c.requires.1 (omega arith)
 
 add-o : tie.Need-overflow_step-o invariant-loop decreases-loop
 add-o c = search rules

@@ -14,9 +14,8 @@ slice-read-row c = search rules
 
 add_row : tie.Need-overflow_add-row
 add_row c =
-    let at = c in
-    let a = at.args in
-    omega (arith, at.requires.1 (a.l - a.s) c.if-o-width.true, hit_there a.l a.s (omega arith))
+    let a = c.args in
+    omega (arith, c.requires.1 (a.l - a.s) c.if-o-width.true, hit_there a.l a.s (omega arith))
 
 mul-row-2 : tie.Need-offset_bounds-row-o-then-o-width
 mul-row-2 c = search rules

@@ -18,7 +18,6 @@ invariant-loop row₀ width l q from end n₀ row n =
 abbrev decreases-loop : tie.decreases-loop-n
 decreases-loop row₀ width l q from end n₀ row n = end - n
 
--- the places that the others follow
 loop-holds : tie.Need-loop-n-init invariant-loop decreases-loop
 loop-holds c = (refl, adding_none)
 
@@ -29,18 +28,16 @@ mul-s c =
 
 vote-requires : tie.Need-vote-requires invariant-loop decreases-loop
 vote-requires c κs =
-    let at = c in
-    (omega arith, adding_fits _ _ at.loop-n.invariant.1 at.requires.1 (votes_of_line_more _ _ _ _ c.loop-n-test.true))
+    (omega arith, adding_fits _ _ c.loop-n.invariant.1 c.requires.1 (votes_of_line_more _ _ _ _ c.loop-n-test.true))
 
 add-vote : tie.Need-overflow_add-l invariant-loop decreases-loop
 add-vote c = search rules
 
 vote-requires-2 : tie.Need-vote-requires-in-loop-n invariant-loop decreases-loop
 vote-requires-2 c κs =
-    let here = c in
     let vote = c.vote.ensures in
-    let first = adding_more here.loop-n.invariant.1 vote (votes_of_line_more _ _ _ _ here.loop-n-test.true) in
-    (omega (arith, vote.len), adding_fits _ _ first here.requires.1 (λ o. refl))
+    let first = adding_more c.loop-n.invariant.1 vote (votes_of_line_more _ _ _ _ c.loop-n-test.true) in
+    (omega (arith, vote.len), adding_fits _ _ first c.requires.1 (λ o. refl))
 
 add-n : tie.Need-overflow_step-n invariant-loop decreases-loop
 add-n c = search rules
@@ -50,11 +47,9 @@ loop-less c = search rules
 
 loop-again : tie.Need-loop-n-preserved invariant-loop decreases-loop
 loop-again c =
-    let second = c in
-    let here = c in
-    let more = votes_of_line_more _ _ _ _ here.loop-n-test.true in
-    let first = adding_more here.loop-n.invariant.1 second.vote.ensures more in
-    let both = adding_more first second.vote-in-loop-n.ensures (λ o. refl) in
+    let more = votes_of_line_more _ _ _ _ c.loop-n-test.true in
+    let first = adding_more c.loop-n.invariant.1 c.vote.ensures more in
+    let both = adding_more first c.vote-in-loop-n.ensures (λ o. refl) in
     (both.len, both)
 
 same_length : tie.Need-shape_of-row invariant-loop decreases-loop

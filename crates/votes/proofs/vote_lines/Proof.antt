@@ -18,7 +18,6 @@ invariant-loop row₀ width lines e q k₀ k-end row k =
 abbrev decreases-loop : tie.decreases-loop-k
 decreases-loop row₀ width lines e q k₀ k-end row k = length lines - k
 
--- the places that the others follow
 loop-holds : tie.Need-loop-k-init invariant-loop decreases-loop
 loop-holds c = (omega arith, refl, refl, adding_none)
 
@@ -45,20 +44,17 @@ div-vote-line-2 c = omega (arith, c.min_pitch.ensures)
 
 add-vote-line : tie.Need-overflow_add-l invariant-loop decreases-loop
 add-vote-line c =
-    let at = c in
-    let first = c in
-    let l = get_or first.args.lines.now at.loop-k.k 0 in
-    omega (arith, turns first.args.e l _ c.min_pitch.ensures (first.requires.0.1 at.loop-k.k))
+    let l = get_or c.args.lines.now c.loop-k.k 0 in
+    omega (arith, turns c.args.e l _ c.min_pitch.ensures (c.requires.0.1 c.loop-k.k))
 
 vote-line-requires : tie.Need-vote_line-requires invariant-loop decreases-loop
 vote-line-requires c κs =
     let at = c.loop-k in
-    let first = c in
-    let a = first.args in
+    let a = c.args in
     let most = c.max_pitch.ensures in
     let more = votes_more a.e a.lines.now at.k a.q _ _ (omega arith) most c.min_pitch.ensures in (
-      (omega arith, first.requires.0.1 at.k, first.requires.0.2, turns a.e _ _ c.min_pitch.ensures (first.requires.0.1 at.k)),
-      adding_fits _ _ at.invariant.3 first.requires.1 more,
+      (omega arith, c.requires.0.1 at.k, c.requires.0.2, turns a.e _ _ c.min_pitch.ensures (c.requires.0.1 at.k)),
+      adding_fits _ _ at.invariant.3 c.requires.1 more,
     )
 
 add-k : tie.Need-overflow_step-k invariant-loop decreases-loop
@@ -69,11 +65,10 @@ loop-less c = search rules
 
 loop-again : tie.Need-loop-k-preserved invariant-loop decreases-loop
 loop-again c =
-    let calls = c in
-    let at = calls.loop-k in
-    let a = calls.args in
-    let most = calls.max_pitch.ensures in
-    let more = votes_more a.e a.lines.now at.k a.q _ _ (omega arith) most calls.min_pitch.ensures in
+    let at = c.loop-k in
+    let a = c.args in
+    let most = c.max_pitch.ensures in
+    let more = votes_more a.e a.lines.now at.k a.q _ _ (omega arith) most c.min_pitch.ensures in
     let next = adding_more at.invariant.3 c.vote_line.ensures more in
     (omega arith, refl, next.len, next)
 

@@ -19,7 +19,6 @@ invariant-loop lines e row₀ width best₀ q₀ q-end row best q = (length row 
 abbrev decreases-loop : tie.decreases-loop-q
 decreases-loop lines e row₀ width best₀ q₀ q-end row best q = q-end - q
 
--- the places that the others follow
 shared-slice-read-width : tie.Need-bounds-lines-0 invariant-loop decreases-loop
 shared-slice-read-width c = search rules
 
@@ -52,18 +51,13 @@ clear-u32-requires c κs = search rules
 
 vote-lines-requires : tie.Need-vote_lines-requires invariant-loop decreases-loop
 vote-lines-requires c κs =
-    let clear = c in
-    let at = c in
-    let first = c in
-    let few = votes_few first.args.e first.args.lines.now at.loop-q.q first.requires.0.2 in
-    let cleared = clear.clear_u32.ensures in
-    ((omega (arith, cleared.len), first.requires.0.2, omega arith), λ o h. omega (arith, same_at 0 0 _ cleared o h, few o))
+    let few = votes_few c.args.e c.args.lines.now c.loop-q.q c.requires.0.2 in
+    let cleared = c.clear_u32.ensures in
+    ((omega (arith, cleared.len), c.requires.0.2, omega arith), λ o h. omega (arith, same_at 0 0 _ cleared o h, few o))
 
 best-in-row-requires : tie.Need-best_in_row-best-requires invariant-loop decreases-loop
 best-in-row-requires c κs =
-    let voted = c in
-    let clear = c in
-    (omega (arith, voted.vote_lines.ensures.len, clear.clear_u32.ensures.len), passed_low clear.loop-q.invariant.1)
+    (omega (arith, c.vote_lines.ensures.len, c.clear_u32.ensures.len), passed_low c.loop-q.invariant.1)
 
 add-q : tie.Need-overflow_step-q-in-loop-q invariant-loop decreases-loop
 add-q c = search rules
@@ -74,11 +68,9 @@ loop-less c = search rules
 loop-again : tie.Need-loop-q-preserved invariant-loop decreases-loop
 loop-again c =
     let voted = c.vote_lines.ensures in
-    let clear = c in
-    let cleared = clear.clear_u32.ensures in
-    let at = c in (
-      voted.len ∙ cleared.len ∙ at.loop-q.invariant.0,
-      passed_more at.loop-q.invariant.1 (omega arith) (row_picks (same_at 0 0 _ cleared) voted c.best_in_row-best.ensures),
+    let cleared = c.clear_u32.ensures in (
+      voted.len ∙ cleared.len ∙ c.loop-q.invariant.0,
+      passed_more c.loop-q.invariant.1 (omega arith) (row_picks (same_at 0 0 _ cleared) voted c.best_in_row-best.ensures),
     )
 
 same_length : tie.Need-shape_of-row invariant-loop decreases-loop
