@@ -1,7 +1,7 @@
 #!/usr/bin/env python3
 """Brings the names of this repository's own definitions, fields and lemmas to snake case.
 
-usage: python3 tools/snake_case.py        at the top, once, after /opt/rattle/port/port.py
+usage: python3 tools/snake_case.py        at the top, once, after port.py of the kit
 
 The names are those that specs/*.antt and proofs/*.antt of the crates declare: `planesAnswer` becomes `planes_answer`,
 `answer-is` becomes `answer_is`. Types and facts keep their capitals, and so do names that the check makes. They are

@@ -484,7 +484,7 @@ pub mod inner {
         }
     }
 
-    /// Sampling of a record and planes that are known to be fit.
+    /// Sampling of planes that are known to be fit.
     pub fn sample(
         board: Board,
         planes: &[f32],
@@ -494,7 +494,6 @@ pub mod inner {
         out: &mut [f32],
     ) -> u32 {
         assert!(3 * board.height * board.width <= planes.len());
-        assert!([board.r_1, board.c_1, board.r0, board.c0].iter().all(|&number| number <= 4096));
         unsafe {
             linked::folgutan_inner_sample(
                 board,

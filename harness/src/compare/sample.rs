@@ -519,11 +519,10 @@ impl Cases {
         }
         let cell = if want == 0 { rust.unwrap() } else { vec![] };
         let found = lent.differs("output", cell.iter().copied());
-        let numbers = [record.r_1, record.c_1, record.r0, record.c0];
-        if found.is_some() || !fit || want == 10 || numbers.iter().any(|&number| number > MOST) {
+        if found.is_some() || !fit {
             return found;
         }
-        // the inner function, which is not handed a record or planes that are unfit
+        // the inner function, which is not handed planes that are unfit
         let mut lent = Lent::new(out);
         let have = port::inner::sample(Board::of(&record), planes, x, y, size, lent.slice());
         if have != want {
