@@ -13,10 +13,10 @@ import re
 import sys
 
 WORD = re.compile(r"[^\s(){};.,«»\[\]⟦⟧⌜⌝`\"/|:]+")
-SIGNATURE = re.compile(r"^\s*(?:(?:pub|abbrev|unfoldable|ruleset)\s+)*([^\s(){};.,:«»=]+)\s*:\s")
+SIGNATURE = re.compile(r"^\s*(?:(?:pub|abbrev|unfoldable|ruleset)\s+)*([^\s(){};.,:«»=]+)\s*:(?:\s|$)")
 # names of the kit's library that the crates use, or of what the check makes
 KEEP = {"decreases-loop", "invariant-loop"}
-# lemmas and a field whose new names would be those of a definition or of the kit's library
+# lemmas and a field whose new names would be those of a definition or of the kit's library; laws of what the kit calls get_or
 OTHER = {
     "fit-answer": "fit_answer_lem",
     "gradient-at": "gradient_at_lem",
@@ -27,11 +27,13 @@ OTHER = {
     "place-count": "place_count_lem",
     "text-length": "text_length_lem",
     "comesBack": "each_comes_back",
+    "getD-tab": "get_or_tab",
+    "getD-tabFrom": "get_or_tab_from",
 }
-# names that port.py turned in the crates' sources, and neither in edits nor in pages
+# names that port.py turned in the crates' sources, and neither in edits nor in pages; and a parameter
 PORTED = (
     "allBelow answerIn answerOf atMost atPlace boundsOf columnSum countOf dropLast edgesAt inTurn isLine lanesOf lastOf lineOf "
-    "linesOf listOf partAt placeOf placesOf rankOf readingOf rowAt rowLine rowOf rowsOf seenAt signBit sumAt textOf valueAt valuesOf"
+    "linesOf listOf partAt placeOf placesOf rankOf readingOf rowAt rowLine rowOf rowsOf seenAt signBit sumAt textOf valueAt valuesOf planeSide"
 ).split()
 
 

@@ -23,7 +23,7 @@ pub struct Readings {
 // Column scores, then row scores, to the front of `scores`. `turned` is scratch.
 fn score_all(edges: &[u8], stride: usize, b: Bounds, turned: &mut [u8], scores: &mut [u32])
     requires scorable { Scorable edges.now stride b × (both_counts b ≤ length scores.old) }
-    requires r_2_in_bounds { (b.c_2 - b.c_1 + 1) * place_count b.r_1 b.r_2 ≤ length turned.old }
+    requires turned_room { (b.c_2 - b.c_1 + 1) * place_count b.r_1 b.r_2 ≤ length turned.old }
     ensures { let E = points stride 1 edges.now in
         AtFront (column_scores E b ++ row_scores E b) scores.old scores.new }
 {

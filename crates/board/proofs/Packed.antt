@@ -9,7 +9,7 @@ use lib.Arith.{digits_lt, digits_div, digits_mod, mod-mul}
 use lib.Ieee.{Float, nan}
 use lib.ListN.{length}
 use Rattle.lists.specs.Tab.{grid}
-use Rattle.lists.proofs.Tab.{length_tab_from, get_d_tab, tab_same}
+use Rattle.lists.proofs.Tab.{length_tab_from, get_or_tab, tab_same}
 use Rattle.lists.proofs.Grid.{row_column}
 use Rattle.binary32.specs.Binary32.{unit}
 use Rattle.board.specs.Planes.{all_units}
@@ -42,7 +42,7 @@ view_packed s k i j k-in i-in j-in =
     let row = ap (λ (m : ℕ). m / s.width) rest ∙ digits_div i j-in in
     let column = ap (λ (m : ℕ). m % s.width) rest ∙ digits_mod i j-in in
     let point : point_at s q ≡ s.px k i j = cc in
-    get_d_tab (3 * n) q (point_at s) nan (digits_lt k-in p) ∙ point
+    get_or_tab (3 * n) q (point_at s) nan (digits_lt k-in p) ∙ point
 
 pub packed_units : (s : Screen) → ((k i j : ℕ) → k < 3 → i < s.height → j < s.width → unit (s.px k i j) ≡ true)
     → all_units (packed s) ≡ true
@@ -51,7 +51,7 @@ packed_units s u =
     (λ q b.
     let below : q < 3 * (s.height * s.width) = omega (arith, length_packed s) in
     let at = point_in s.height s.width q below in
-    rw (get_d_tab (3 * (s.height * s.width)) q (point_at s) nan below) (u _ _ _ at.0 at.1 at.2))
+    rw (get_or_tab (3 * (s.height * s.width)) q (point_at s) nan below) (u _ _ _ at.0 at.1 at.2))
 
 -- the rows of all planes, one plane after another: row r of all is row r % height of plane r / height
 abbrev pub plane_rows : Screen → ℕ → ℕ → Float

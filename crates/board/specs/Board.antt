@@ -34,9 +34,9 @@ abbrev pub least_located : ℕ → ℕ
 least_located f = max least_side (4 * f)
 
 -- the code's constants are these limits
-pub record LimitsAre (side planeSide most size : ℕ) : Type 0 where
+pub record LimitsAre (side plane_side most size : ℕ) : Type 0 where
   pub side_is : side ≡ least_side
-  pub plane_side_is : planeSide ≡ least_plane_side
+  pub plane_side_is : plane_side ≡ least_plane_side
   pub most_is : most ≡ most_side
   pub size_is : size ≡ most_size
 

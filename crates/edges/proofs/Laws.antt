@@ -10,7 +10,7 @@ use lib.Dec.{eqb, ltb}
 use lib.Ieee.{Float, nan, le}
 use lib.ListN.{length, get_or, get_or-eq_default}
 use Rattle.lists.specs.Picture.{bit}
-use Rattle.lists.proofs.Tab.{get_d_tab, length_tab_from}
+use Rattle.lists.proofs.Tab.{get_or_tab, length_tab_from}
 use Rattle.lists.proofs.Picture.{bit_le, bit_is}
 use Rattle.binary32.proofs.Plain.{plain_bits}
 use Rattle.board.specs.Board.{least_plane_side}
@@ -28,13 +28,13 @@ length_edges h w planes = length_tab_from 0 ((h - 2) * (w - 2)) _
 
 -- a byte of the marks is 1 where the gradient is at least the threshold
 pub mark_is : (th : Float) (n : ℕ) (g : List Float) (k : ℕ) → k < n → eqb (get_or (marks th n g) k 0) 1 ≡ le th (get_or g k nan)
-mark_is th n g k l = rw (get_d_tab n k (λ k. bit (le th (get_or g k nan))) 0 l) (bit_is (le th (get_or g k nan)))
+mark_is th n g k l = rw (get_or_tab n k (λ k. bit (le th (get_or g k nan))) 0 l) (bit_is (le th (get_or g k nan)))
 
 mark_le : (th : Float) (n : ℕ) (g : List Float) (k : ℕ) → get_or (marks th n g) k 0 ≤ 1
 mark_le th n g k = at (ltb k n) refl
   where
     at : (t : Bool) → ltb k n ≡ t → get_or (marks th n g) k 0 ≤ 1
-    at true e = rw (get_d_tab n k (λ k. bit (le th (get_or g k nan))) 0 (ltb-true k n e)) (bit_le (le th (get_or g k nan)))
+    at true e = rw (get_or_tab n k (λ k. bit (le th (get_or g k nan))) 0 (ltb-true k n e)) (bit_le (le th (get_or g k nan)))
     at false e =
         let l : length (marks th n g) ≤ k = omega (arith, ltb-false k n e, length_tab_from 0 n (λ k. bit (le th (get_or g k nan)))) in
         omega (arith, get_or-eq_default (marks th n g) 0 l)

@@ -13,7 +13,7 @@ use lib.ListN.{length, get_or}
 use Rattle.lists.specs.Tab.{tab, grid}
 use Rattle.lists.specs.Picture.{bit}
 use Rattle.lists.proofs.Count.{count_append, count_le}
-use Rattle.lists.proofs.Tab.{length_tab_from, get_d_tab, tab_same}
+use Rattle.lists.proofs.Tab.{length_tab_from, get_or_tab, tab_same}
 use Rattle.lists.proofs.Grid.{row_column, tab_more, grid_more}
 use Rattle.binary32.proofs.Plain.{Plain, bits_plain, at_most_bits}
 use Rattle.binary32.proofs.Share.{share_below}
@@ -71,7 +71,7 @@ part_plain s p row column g y o e f q k h =
     let place = row_column rows n k l in
     let at = start s p row column (k / n) + k % n in
     let b : at < length g = omega (arith, row_in s p row column (k / n) y o place.0, place.1) in
-    rw (get_d_tab (rows * n) k (at_place (part_at s p row column g) n) nan l) (bits_plain (get_or g at nan) (f at) (q at b))
+    rw (get_or_tab (rows * n) k (at_place (part_at s p row column g) n) nan l) (bits_plain (get_or g at nan) (f at) (q at b))
 
 -- the part that is all of it
 pub part_all : (row column : ℕ) (g : List Float) → part 1 1 row column g ≡ sample row column g

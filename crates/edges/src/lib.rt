@@ -49,8 +49,8 @@ fn at_most(x: f32, v: f32) -> u8
 
 // How many of the n values from `from` on are at most the value with these bits. Plain values are ordered as their bits are.
 fn count_row(g: &[f32], from: usize, n: usize, bits: u32) -> u32
-    requires n_in_bounds { (from + n ≤ length g.now) × (n ≤ 4096) × (bits ≤ 0x7F800000) }
-    requires all_plain { AllPlain g.now }
+    requires part_there { (from + n ≤ length g.now) × (n ≤ 4096) × (bits ≤ 0x7F800000) }
+    requires plain { AllPlain g.now }
     ensures { result ≡ count_at_most (to_bits binary32) bits (tab n (λ k. get_or g.now (from + k) nan)) }
 {
     let v = f32::from_bits(bits);
@@ -86,8 +86,8 @@ fn row_start(
     columns: usize,
     i: usize,
 ) -> usize
-    requires le_every { (1 ≤ every) × (1 ≤ parts) × (row ≤ 4094) × (column ≤ 4094) }
-    requires columns_value { (columns ≡ Inner.taken parts column) × (i < Inner.taken every row) }
+    requires parts_in { (1 ≤ every) × (1 ≤ parts) × (row ≤ 4094) × (column ≤ 4094) }
+    requires row_in { (columns ≡ Inner.taken parts column) × (i < Inner.taken every row) }
     ensures { (result ≡ start every parts row column i) × (result + columns ≤ row * column) }
 {
     (row / 4 + (every * i + i * i / 7 % every)) * column + (column / 4 + 3 * i % parts * columns)
@@ -95,7 +95,7 @@ fn row_start(
 
 // How many values of a part of the sample are at most the value with these bits.
 fn count_part(every: usize, parts: usize, row: usize, column: usize, g: &[f32], bits: u32) -> u32
-    requires le_every { (1 ≤ every) × (1 ≤ parts) × (bits ≤ 0x7F800000) }
+    requires parts_in { (1 ≤ every) × (1 ≤ parts) × (bits ≤ 0x7F800000) }
     requires gradients_fit { GradientsFit row column g.now }
     ensures { result ≡ count_at_most (to_bits binary32) bits (part every parts row column g.now) }
 {
@@ -229,7 +229,7 @@ fn rank_in_part(s: Seen, rank: u32) -> u64 {
 
 // Where entry `rank` of the part lies, as near as the range allows.
 fn guess(row: usize, column: usize, g: &[f32], rank: u64, from: Range) -> u32
-    requires lo_le_hi { (from.lo ≤ from.hi) × (from.hi ≤ 0x3F800000) }
+    requires range_in { (from.lo ≤ from.hi) × (from.hi ≤ 0x3F800000) }
     requires gradients_fit { GradientsFit row column g.now }
     ensures { (from.lo ≤ result) × (result ≤ from.hi) }
 {
@@ -258,7 +258,7 @@ fn near_end(r: Range, reach: u32, from_lo: bool) -> u32
 
 // Where to count next.
 fn next_count(row: usize, column: usize, g: &[f32], rank: u32, range: Range, seen: Seen) -> u32
-    requires lo_lt_hi { (range.lo < range.hi) × (range.hi ≤ 0x3F800000) }
+    requires range_in { (range.lo < range.hi) × (range.hi ≤ 0x3F800000) }
     requires gradients_fit { GradientsFit row column g.now }
     ensures { (range.lo ≤ result) × (result < range.hi) }
 {
@@ -276,8 +276,8 @@ fn next_count(row: usize, column: usize, g: &[f32], rank: u32, range: Range, see
 // The bits of the clipped entry `rank` of the sample, found by counting: no sort, no copy.
 fn threshold_bits(row: usize, column: usize, g: &[f32], rank: u32) -> u32
     requires { GradientsFit row column g.now }
-    ensures value { rank < length (sample row column g.now) → result ≡ sought (sample row column g.now) rank }
-    ensures upper_bound { result ≤ 0x3F800000 }
+    ensures found { rank < length (sample row column g.now) → result ≡ sought (sample row column g.now) rank }
+    ensures ceiling { result ≤ 0x3F800000 }
 {
     let mut seen = seen_first(row, column);
     let mut range = Range {
@@ -296,7 +296,7 @@ fn threshold_bits(row: usize, column: usize, g: &[f32], rank: u32) -> u32
 
 // The threshold of gradients, `row` rows of `column` each.
 pub fn threshold_of(row: usize, column: usize, g: &[f32]) -> f32
-    requires le_row { (2 ≤ row) × (2 ≤ column) }
+    requires sides_in { (2 ≤ row) × (2 ≤ column) }
     requires gradients_fit { GradientsFit row column g.now }
     ensures { result ≡ threshold row column g.now }
 {

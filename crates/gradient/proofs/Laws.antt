@@ -8,7 +8,7 @@ use native.Mathlib.Omega.{arith}
 use lib.Ieee.{Float, nan, binary32}
 use lib.Ieee.Fits.{add-fits}
 use lib.ListN.{length, get_or}
-use Rattle.lists.proofs.Tab.{get_d_tab, length_tab_from}
+use Rattle.lists.proofs.Tab.{get_or_tab, length_tab_from}
 use Rattle.lists.proofs.Grid.{row_column}
 use Rattle.binary32.specs.Binary32.{magnitude}
 use Rattle.binary32.proofs.Plain.{Plain, plain_of, plain_magnitude, plain_larger}
@@ -49,5 +49,5 @@ module _ (p : List Float) where
     pub gradients_plain : (k : ℕ) → k < (h - 2) * (w - 2) → Plain (get_or (gradients h w p) k nan)
     gradients_plain k b =
         let at = row_column (h - 2) (w - 2) k b in
-        rw (get_d_tab ((h - 2) * (w - 2)) k _ nan b)
+        rw (get_or_tab ((h - 2) * (w - 2)) k _ nan b)
         (point_plain (k / (w - 2)) (k % (w - 2)) (place h w _ _ fit.sides at.0 at.1))

@@ -22,8 +22,8 @@ fn difference(a: f32, b: f32, c: f32, d: f32, e: f32, f: f32) -> f32
 
 // The magnitude of the sum of the square from `at` on, where the next row is `down` further and the next column `right`.
 fn slope(p: &[f32], at: usize, down: usize, right: usize) -> f32
-    requires right_in_bounds { at + (2 * down + 2 * right) < length p.now }
-    requires units_to { UnitsTo p.now (at + (2 * down + 2 * right)) }
+    requires points_there { at + (2 * down + 2 * right) < length p.now }
+    requires units { UnitsTo p.now (at + (2 * down + 2 * right)) }
     ensures { result ≡ magnitude (row_sum (square p.now at down right) 0 0) }
 {
     let low = at + 2 * down;
@@ -39,8 +39,8 @@ fn slope(p: &[f32], at: usize, down: usize, right: usize) -> f32
 
 // The larger of `best` and the two magnitudes of one plane.
 fn steeper(p: &[f32], at: usize, width: usize, best: f32) -> f32
-    requires width_in_bounds { at + (2 * width + 2) < length p.now }
-    requires units_to { UnitsTo p.now (at + (2 * width + 2)) }
+    requires points_there { at + (2 * width + 2) < length p.now }
+    requires units { UnitsTo p.now (at + (2 * width + 2)) }
     ensures { result ≡ Spec.steeper (square p.now at width 1) 0 0 best }
 {
     binary32::larger(

@@ -42,22 +42,22 @@ collected_all h = let e : h.list ≡ _ = rw append-nil at h.whole_is in (rw e at
 abbrev pub kept_if : Bool → ℕ → List ℕ → List ℕ
 kept_if b v next = cond b (v ∷ next) next
 
-pub collected-kept :
+pub collected_kept :
     (v : ℕ) {whole rest next : List ℕ} {b : Bool} {n : ℕ} {lent out : List ℕ}
     → Collected whole rest n lent out
     → rest ≡ kept_if b v next
     → b ≡ true
     → n < length lent
     → Collected whole next (n + 1) lent (set out n v)
-collected-kept v h e q l = collected_more (rw (e, q) at h) l
+collected_kept v h e q l = collected_more (rw (e, q) at h) l
 
-pub collected-passed :
+pub collected_passed :
     (v : ℕ) {whole rest next : List ℕ} {b : Bool} {n : ℕ} {lent out : List ℕ}
     → Collected whole rest n lent out
     → rest ≡ kept_if b v next
     → b ≡ false
     → Collected whole next n lent out
-collected-passed v h e q = rw (e, q) at h
+collected_passed v h e q = rw (e, q) at h
 
 -- the places from i up to n that pass a test
 abbrev pub places_from : (ℕ → Bool) → ℕ → ℕ → List ℕ

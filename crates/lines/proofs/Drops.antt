@@ -41,11 +41,11 @@ module _ (e : ℕ) where
       front true = refl
       front false = refl
 
-  pub last-tested :
+  pub last_tested :
       (l : List ℕ)
       → 2 ≤ length l
       → drop_last e l ≡ cond (narrow_gap e (get_or l (length l - 2 + 1) 0 - get_or l (length l - 2) 0)) (take (length l - 1) l) l
-  last-tested l h =
+  last_tested l h =
       let n : length l - 2 + 1 ≡ suc (length l - 2) = omega arith in
       let m : length l - 1 ≡ suc (length l - 2) = omega arith in
       rw (n, m) (last_at l (length l - 2) (omega arith))

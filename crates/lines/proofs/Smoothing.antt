@@ -11,7 +11,7 @@ use lib.ListN.{length, get_or, take, drop}
 use lib.Seq.{set-get_or}
 use Rattle.lists.specs.Front.{AtFront}
 use Rattle.lists.specs.Tab.{tab}
-use Rattle.lists.proofs.Tab.{length_tab_from, get_d_tab}
+use Rattle.lists.proofs.Tab.{length_tab_from, get_or_tab}
 use Rattle.lists.proofs.Front.{front_none, front_more, front_part, front_fits, front_within, front_beyond, front_over}
 use Rattle.lines.specs.Lines.{largest, entries_before, entries_behind, smoothed, smooth}
 use Rattle.lines.proofs.Windows.{largest_at, largest_le, largest_take, largest_drop}
@@ -72,7 +72,7 @@ pub largest_smooth : (s : List ℕ) → largest (smooth s) ≤ largest s
 unfolding smooth
 largest_smooth s =
     let n = length_tab_from 0 (length s) (smoothed s) in
-    largest_le (tab (length s) (smoothed s)) (largest s) (λ k h. rw (get_d_tab (length s) k (smoothed s) 0 (omega arith)) (smoothed_le s k))
+    largest_le (tab (length s) (smoothed s)) (largest s) (λ k h. rw (get_or_tab (length s) k (smoothed s) 0 (omega arith)) (smoothed_le s k))
 
 -- the smoothed list as a part of the scratch that it stands in
 pub smooth_part : (s : List ℕ) {lent t : List ℕ} → AtFront (smooth s) lent t → take (length s - 0) t ≡ smooth s

@@ -8,13 +8,13 @@ use lib.ListN.{length, get_or, take, drop, length-drop, length-take}
 use lib.Seq.{drop-cons, drop-length, take_all}
 use Rattle.lines.specs.Lines.{largest, entries_before, entries_behind}
 
-pub max-next :
+pub max_next :
     (m : ℕ) {m' : ℕ} (l : List ℕ) (k : ℕ)
     → max m (largest (drop k l)) ≡ largest l
     → k < length l
     → m' ≡ max m (get_or l k 0)
     → max m' (largest (drop (k + 1) l)) ≡ largest l
-max-next m l k e h q =
+max_next m l k e h q =
     let n : largest (drop k l) ≡ max (get_or l k 0) (largest (drop (k + 1) l)) = rw (drop-cons l k 0 h, add-one k) in
     omega arith
 
@@ -46,11 +46,11 @@ largest_part n k l = omega (arith, largest_take n (drop k l), largest_drop k l)
 max_zero : (n : ℕ) → max n 0 ≡ n
 max_zero n = omega arith
 
-pub largest-four :
+pub largest_four :
     (l : List ℕ) (k : ℕ)
     → k + 4 ≤ length l
     → largest (take 4 (drop k l)) ≡ max (get_or l k 0) (max (get_or l (k + 1) 0) (max (get_or l (k + 2) 0) (get_or l (k + 3) 0)))
-largest-four l k h =
+largest_four l k h =
     let a = drop-cons l k 0 (omega arith) in
     let b = drop-cons l (suc k) 0 (omega arith) in
     let c = drop-cons l (suc (suc k)) 0 (omega arith) in

@@ -14,7 +14,7 @@ use borrow.Rule.Slice.PartMut.{mid_of, put_mid, same_len_mid}
 use Rattle.lists.specs.Front.{AtFront}
 use Rattle.lists.specs.Inner.{Placed}
 use Rattle.lists.specs.Tab.{tab, grid}
-use Rattle.lists.proofs.Tab.{length_tab_from, get_d_tab, tab_same, tab_add}
+use Rattle.lists.proofs.Tab.{length_tab_from, get_or_tab, tab_same, tab_add}
 use Rattle.lists.proofs.Grid.{tab_more, grid_more}
 use Rattle.lists.proofs.Part.{mid_rest, put_rest}
 
@@ -189,7 +189,7 @@ module _ {A : Type 0} where
 
   -- what is read back
   pub front_here : (z : A) (f : ℕ → A) (n r : ℕ) {lent out : List A} → AtFront (tab n f) lent out → r < n → get_or out r z ≡ f r
-  front_here z f n r h b = front_within z r h (omega (arith, length_tab_from 0 n f)) ∙ get_d_tab n r f z b
+  front_here z f n r h b = front_within z r h (omega (arith, length_tab_from 0 n f)) ∙ get_or_tab n r f z b
 
   placed_whole : {list : List A} {at : ℕ} {lent out : List A} → Placed list at lent out → at ≤ length lent
       → AtFront (take at lent ++ list) lent out
@@ -212,7 +212,7 @@ module _ {A : Type 0} where
         front_within z (at + r) (placed_whole x h) (omega (arith, long))
         ∙ ap (λ (k : ℕ). get_or (take at lent ++ tab n value) (k + r) z) (sym (length-take-le at lent h))
         ∙ get_or-append-add (take at lent) (tab n value) r z
-        ∙ get_d_tab n r value z b
+        ∙ get_or_tab n r value z b
 
     pub placed_behind : (r : ℕ) → at + n ≤ r → get_or out r z ≡ get_or lent r z
     placed_behind r b = front_beyond z r (placed_whole x h) (omega (arith, long))

@@ -12,13 +12,13 @@ module _ {A : Type 0} where
   length_tab_from from zero f = refl
   length_tab_from from (suc n) f = ap suc (length_tab_from (suc from) n f)
 
-  get_d_tab_from : (from n k : ℕ) (f : ℕ → A) (z : A) → k < n → get_or (tab_from from n f) k z ≡ f (from + k)
-  get_d_tab_from from zero k f z l = absurd (not-suc-le-zero l)
-  get_d_tab_from from (suc n) zero f z l = ap f (omega arith)
-  get_d_tab_from from (suc n) (suc k) f z l = get_d_tab_from (suc from) n k f z (le_of_suc-le-suc l) ∙ ap f (omega arith)
+  get_or_tab_from : (from n k : ℕ) (f : ℕ → A) (z : A) → k < n → get_or (tab_from from n f) k z ≡ f (from + k)
+  get_or_tab_from from zero k f z l = absurd (not-suc-le-zero l)
+  get_or_tab_from from (suc n) zero f z l = ap f (omega arith)
+  get_or_tab_from from (suc n) (suc k) f z l = get_or_tab_from (suc from) n k f z (le_of_suc-le-suc l) ∙ ap f (omega arith)
 
-  pub get_d_tab : (n k : ℕ) (f : ℕ → A) (z : A) → k < n → get_or (tab n f) k z ≡ f k
-  get_d_tab n k f z l = get_d_tab_from 0 n k f z l ∙ ap f (omega arith)
+  pub get_or_tab : (n k : ℕ) (f : ℕ → A) (z : A) → k < n → get_or (tab n f) k z ≡ f k
+  get_or_tab n k f z l = get_or_tab_from 0 n k f z l ∙ ap f (omega arith)
 
   tab_from_same : (from n : ℕ) (f g : ℕ → A) → ((k : ℕ) → from ≤ k → k < from + n → f k ≡ g k) → tab_from from n f ≡ tab_from from n g
   tab_from_same from zero f g h = refl

@@ -12,7 +12,7 @@ use lib.ListN.{length, set, get_or, drop, length-append, length-drop, length-set
 use lib.Seq.{get_or-set_same, get_or-set_other, ext_get_or}
 use Rattle.lists.specs.Front.{AtFront}
 use Rattle.lists.specs.Tab.{grid}
-use Rattle.lists.proofs.Tab.{length_tab_from, get_d_tab}
+use Rattle.lists.proofs.Tab.{length_tab_from, get_or_tab}
 use Rattle.lists.proofs.Front.{front_by, front_within, front_beyond}
 use Rattle.lists.proofs.Grid.{row_column}
 
@@ -104,4 +104,4 @@ module _ {A : Type 0} (z : A) (g : ℕ → ℕ → A) (n : ℕ) where
       within r b =
           let at = row_column 3 n r b in
           ap (λ (k : ℕ). get_or out k z) (sym (div-add-mod' r n)) ∙ h.done (r / n) (r % n) at.0 at.1
-          ∙ sym (front_within z r whole (rw long b) ∙ get_d_tab (3 * n) r (λ k. g (k / n) (k % n)) z b)
+          ∙ sym (front_within z r whole (rw long b) ∙ get_or_tab (3 * n) r (λ k. g (k / n) (k % n)) z b)

@@ -41,8 +41,8 @@ fn level(b: u8) -> f32
 
 // The three planes in one loop.
 fn load_planes(height: usize, width: usize, pixels: &[u8], planes: &mut [f32])
-    requires height_nonzero { (0 < height) × (0 < width) }
-    requires width_in_bounds { (4 * (height * width) ≤ length pixels.now) × (3 * (height * width) ≤ length planes.old) }
+    requires sides { (0 < height) × (0 < width) }
+    requires room { (4 * (height * width) ≤ length pixels.now) × (3 * (height * width) ≤ length planes.old) }
     ensures { AtFront (packed (shown most_byte height width pixels.now)) planes.old planes.new }
 {
     let n = height * width;

@@ -241,8 +241,8 @@ fn work(
     scratch_u8: &mut [u8],
     scratch_u32: &mut [u32],
 ) -> Located
-    requires factor_in { FactorIn factor × FitPlanes (least_located factor) b.height b.width planes.old }
-    requires fact { let s = lent planes.old edges.old scores.old scratch_f32.old scratch_u8.old scratch_u32.old in
+    requires fit { FactorIn factor × FitPlanes (least_located factor) b.height b.width planes.old }
+    requires room { let s = lent planes.old edges.old scores.old scratch_f32.old scratch_u8.old scratch_u32.old in
         NoneShort b.height b.width s }
     ensures { let before = lent planes.old edges.old scores.old
         scratch_f32.old scratch_u8.old scratch_u32.old in

@@ -88,8 +88,8 @@ fn put_marks(
     out: &mut [u8],
     at: usize,
 ) -> usize
-    requires fit_planes { FitPlanes least_plane_side b.height b.width planes.now }
-    requires c_le_line_width { (b.c ≤ line_width) × (at + b.c ≤ length out.old) }
+    requires planes_fit { FitPlanes least_plane_side b.height b.width planes.now }
+    requires room { (b.c ≤ line_width) × (at + b.c ≤ length out.old) }
     ensures { Puts (tab b.c (λ y. mark_at b planes.now i (get_or columns.now y 0))) at
         out.old result out.new }
 {
@@ -109,7 +109,7 @@ fn put_row(
     at: usize,
 ) -> usize
     requires printable { Printable b planes.now × (x < b.r) × (at + (line_width + 1) ≤ length out.old) }
-    requires by_index { (y : ℕ) → y < b.c → get_or columns.now y 0 ≡ column_at b y 1 0 }
+    requires columns_known { (y : ℕ) → y < b.c → get_or columns.now y 0 ≡ column_at b y 1 0 }
     ensures { Puts (row_line b planes.now x) at out.old result out.new }
 {
     let i = sample::sampled_at(b.r_1, b.r0, b.pixelr, x, 1, 0);
@@ -134,8 +134,8 @@ fn put_rows(b: Board, planes: &[f32], out: &mut [u8], at: usize) -> usize
 // The whole text, and how many bytes it is.
 fn put_map(b: Board, planes: &[f32], out: &mut [u8]) -> usize
     requires { Printable b planes.now × (length (map_text b planes.now) ≤ length out.old) }
-    ensures value { result ≡ length (map_text b planes.now) }
-    ensures at_front { AtFront (map_text b planes.now) out.old out.new }
+    ensures length_is { result ≡ length (map_text b planes.now) }
+    ensures front { AtFront (map_text b planes.now) out.old out.new }
 {
     let mut next = text::put_bytes(out, 0, b"rows columns\n");
     let counts: [u64; 2] = [b.r as u64, b.c as u64];

@@ -8,7 +8,7 @@ use native.Mathlib.Omega.{arith}
 use lib.Ieee.{Float, nan, binary32, of_bits, to_bits}
 use lib.ListN.{length, take, replicate, length-append, length-drop, length-replicate}
 use lib.Seq.{take_at}
-use Rattle.lists.proofs.Tab.{length_tab_from, get_d_tab}
+use Rattle.lists.proofs.Tab.{length_tab_from, get_or_tab}
 use Rattle.lists.proofs.Grid.{row_column}
 use Rattle.rank.proofs.Members.{entry_has}
 use Rattle.binary32.specs.Binary32.{unit}
@@ -29,7 +29,7 @@ median_has P f l a i j h =
     (λ k b.
     let below : k < f * f = omega (arith, n) in
     let at = row_column f f k below in
-    rw (get_d_tab (f * f) k (λ k. a (i * f + k / f) (j * f + k % f)) nan below) (h (k / f) (k % f) at.0 at.1))
+    rw (get_or_tab (f * f) k (λ k. a (i * f + k / f) (j * f + k % f)) nan below) (h (k / f) (k % f) at.0 at.1))
 
 pub smaller : (f h w : ℕ) → h / f * (w / f) ≤ h * w
 smaller f h w = mul-le-mul (div-le_self h f) (div-le_self w f)

@@ -78,8 +78,8 @@ fn group(
     x: &mut [f32],
     out: &mut [f32],
 )
-    requires fit_planes { FitPlanes 0 height width planes.now × FactorIn f × (k < 3) × (i < height / f) × (j + m ≤ width / f) }
-    requires m_nonzero { (0 < m) × (m ≤ list_count) × (f * f * list_count ≤ length x.old) × (width / f ≤ length out.old) }
+    requires fit { FitPlanes 0 height width planes.now × FactorIn f × (k < 3) × (i < height / f) × (j + m ≤ width / f) }
+    requires room { (0 < m) × (m ≤ list_count) × (f * f * list_count ≤ length x.old) × (width / f ≤ length out.old) }
     ensures { Placed (run (narrowed f (view height width planes.now)) k i j m) j out.old out.new }
 {
     let at = k * (height * width) + (i * f * width + j * f);
@@ -105,8 +105,8 @@ fn narrow_row(
     x: &mut [f32],
     out: &mut [f32],
 )
-    requires fit_planes { FitPlanes 0 height width planes.now × FactorIn f × (k < 3) × (i < height / f) }
-    requires list_count_in_bounds { (f * f * list_count ≤ length x.old) × (width / f ≤ length out.old) }
+    requires fit { FitPlanes 0 height width planes.now × FactorIn f × (k < 3) × (i < height / f) }
+    requires room { (f * f * list_count ≤ length x.old) × (width / f ≤ length out.old) }
     ensures { AtFront (row_of (narrowed f (view height width planes.now)) k i) out.old out.new }
 {
     let columns = width / f;
@@ -122,8 +122,8 @@ fn narrow_row(
 // at hand: clearing in a pass of its own would fetch them again. Where rows are left over, what is cleared lags behind what was read.
 fn narrow_planes(f: usize, height: usize, width: usize, planes: &mut [f32], out: &mut [f32])
     requires { FitPlanes 0 height width planes.old × FactorIn f × (height * width ≤ length out.old) }
-    ensures at_front { AtFront (packed (narrowed f (view height width planes.old))) out.old out.new }
-    ensures at_front_2 { AtFront (replicate (3 * (height * width)) (of_bits binary32 0)) planes.old planes.new }
+    ensures front { AtFront (packed (narrowed f (view height width planes.old))) out.old out.new }
+    ensures cleared { AtFront (replicate (3 * (height * width)) (of_bits binary32 0)) planes.old planes.new }
 {
     let rows = height / f;
     let columns = width / f;

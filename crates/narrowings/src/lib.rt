@@ -84,7 +84,7 @@ fn narrow_on(
     planes: &mut [f32],
     scratch: &mut [f32],
 ) -> Narrowed
-    requires factor_in { FactorIn factor × FitPlanes (least_located factor) height width planes.old }
+    requires fit { FactorIn factor × FitPlanes (least_located factor) height width planes.old }
     requires looks { Looks height width planes.old start.threshold start.bounds scratch.old
         × (height * width ≤ length scratch.old) }
     ensures { let last = last_of factor height width planes.old in
@@ -133,8 +133,8 @@ pub fn last_picture(
     edges: &mut [u8],
     scratch: &mut [f32],
 ) -> Narrowed
-    requires factor_in { FactorIn factor × FitPlanes (least_located factor) height width planes.old }
-    requires width_in_bounds { (height * width ≤ length edges.old) × (height * width ≤ length scratch.old) }
+    requires fit { FactorIn factor × FitPlanes (least_located factor) height width planes.old }
+    requires room { (height * width ≤ length edges.old) × (height * width ≤ length scratch.old) }
     ensures { let last = last_of factor height width planes.old in
         Narrows height width last result planes.new scratch.new
         × AtFront (edges_at last.stage) edges.old edges.new }

@@ -68,8 +68,8 @@ pub fn pitch_of(quarter: usize) -> f32
 }
 
 fn count_of(lines: &[u32], quarter: usize) -> usize
-    requires quarter_bound { (quarter ≤ 800) × (0 < length lines.now) × ((k : ℕ) → get_or lines.now k 0 ≤ 4095) }
-    requires lines_bound { get_or lines.now 0 0 ≤ get_or lines.now (length lines.now - 1) 0 }
+    requires few { (quarter ≤ 800) × (0 < length lines.now) × ((k : ℕ) → get_or lines.now k 0 ≤ 4095) }
+    requires rising { get_or lines.now 0 0 ≤ get_or lines.now (length lines.now - 1) 0 }
     ensures { result ≡ count_of lines.now quarter }
 {
     let span = lines[lines.len() - 1] - lines[0] + 2;

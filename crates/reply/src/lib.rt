@@ -117,8 +117,8 @@ fn answer_to(bytes: &[u8]) -> [u64; VALUES]
 // Writes the two lines to the front of `out`, and answers how many bytes they are.
 fn write_lines(values: &[u64], out: &mut [u8]) -> usize
     requires { length (text_of values.now) ≤ length out.old }
-    ensures value { result ≡ length (text_of values.now) }
-    ensures at_front { AtFront (text_of values.now) out.old out.new }
+    ensures length_is { result ≡ length (text_of values.now) }
+    ensures front { AtFront (text_of values.now) out.old out.new }
 {
     let names =
         b"answer rows columns r1 c1 r0 c0 quarterr quarterc votesr votesc narrowed height width\n";
@@ -130,9 +130,9 @@ fn write_lines(values: &[u64], out: &mut [u8]) -> usize
 // of any input whose first `room` bytes, or all where it has fewer, are the n that were read.
 pub fn reply(bytes: &[u8], n: usize, out: &mut [u8]) -> usize
     requires { (length bytes.now ≡ room) × (n ≤ room) × (text_room ≤ length out.old) }
-    ensures by_index { (input : List ℕ) → take room input ≡ take n bytes.now →
+    ensures lines { (input : List ℕ) → take room input ≡ take n bytes.now →
         (result ≡ length (text_of (answer_to input))) × AtFront (text_of (answer_to input)) out.old out.new }
-    ensures upper_bound { result ≤ length out.new }
+    ensures within { result ≤ length out.new }
 {
     let values = answer_to(&bytes[..n]);
     write_lines(&values, out)

@@ -91,7 +91,7 @@ pub fn sampled_at(
     i: usize,
 ) -> usize
     requires axis_in { AxisIn corner offset x size }
-    requires i_lt_size { i < size }
+    requires point_in { i < size }
     ensures { result ≡ sampled_at corner offset pitch x size i }
 {
     binary32::trunc(
@@ -174,8 +174,8 @@ fn copy_row(
     out: &mut [f32],
     to: usize,
 )
-    requires size_le_most_size { (size ≤ most_size) × (to + size ≤ length out.old) }
-    requires by_index { (j : ℕ) → j < size → from + get_or columns.now j 0 < length planes.now }
+    requires room { (size ≤ most_size) × (to + size ≤ length out.old) }
+    requires places_in { (j : ℕ) → j < size → from + get_or columns.now j 0 < length planes.now }
     ensures { Placed (tab size (row_value planes.now from columns.now)) to
         out.old out.new }
 {
@@ -195,8 +195,8 @@ fn copy_plane(
     out: &mut [f32],
     to: usize,
 )
-    requires size_le_most_size { (size ≤ most_size) × (to + size * size ≤ length out.old) }
-    requires by_index { (i j : ℕ) → i < size → j < size → from + get_or rows.now i 0 * width + get_or columns.now j 0 < length planes.now }
+    requires room { (size ≤ most_size) × (to + size * size ≤ length out.old) }
+    requires places_in { (i j : ℕ) → i < size → j < size → from + get_or rows.now i 0 * width + get_or columns.now j 0 < length planes.now }
     ensures { Placed (grid size size (plane_value planes.now from width rows.now columns.now)) to
         out.old out.new }
 {
@@ -214,8 +214,8 @@ fn copy_plane(
 
 // The three planes of a cell whose places are in the picture.
 fn copy_cell(b: Board, planes: &[f32], x: usize, y: usize, size: usize, out: &mut [f32])
-    requires width_in_bounds { 3 * (b.height * b.width) ≤ length planes.now }
-    requires out_value { cell_answer b x y size (length out.old) ≡ 0 }
+    requires planes_there { 3 * (b.height * b.width) ≤ length planes.now }
+    requires answered { cell_answer b x y size (length out.old) ≡ 0 }
     ensures { AtFront (cell b planes.now x y size) out.old out.new }
 {
     let rows = places(b.r_1, b.r0, b.pixelr, x, size);

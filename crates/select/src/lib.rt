@@ -79,8 +79,8 @@ fn put(n: usize, x: &[f32], m: usize, out: &mut [f32], j: usize)
 
 // The medians of the first m lists, n units each, to `out` from j on. The lists are free afterwards.
 pub fn medians(n: usize, x: &mut [f32], m: usize, out: &mut [f32], j: usize)
-    requires n_nonzero { (0 < n) × (n * list_count ≤ length x.old) × (m ≤ list_count) × (j + m ≤ length out.old) }
-    requires by_index { (l : ℕ) → l < m → UnitsIn 0 n (list_of x.old l) }
+    requires room { (0 < n) × (n * list_count ≤ length x.old) × (m ≤ list_count) × (j + m ≤ length out.old) }
+    requires units { (l : ℕ) → l < m → UnitsIn 0 n (list_of x.old l) }
     ensures { Placed (tab m (λ l. median_of n (list_of x.old l))) j out.old out.new }
 {
     select(n, x);

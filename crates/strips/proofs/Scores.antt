@@ -1,5 +1,5 @@
 -- The scored places and the score list: how many they are, their entries, and how the parts make the list. Only `middles`,
--- `place-count` and the two bounds beside it know the number. Assumes nothing.
+-- `place_count_lem` and the two bounds beside it know the number. Assumes nothing.
 use Prim.Native.Nat.{ℕ, zero, suc, ◌+◌, ◌-◌, ◌≤◌, ◌<◌}
 use mathlib.Core.Path.{◌≡◌, refl, ap, ◌∙◌}
 use mathlib.Core.Bool.{Bool}

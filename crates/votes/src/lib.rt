@@ -54,8 +54,8 @@ fn vote(row: &mut [u32], width: usize, l: usize, s: usize)
 
 // The votes of a line with one q, for each n from `from` to before `end`.
 fn vote_line(row: &mut [u32], width: usize, l: usize, q: usize, from: usize, end: usize)
-    requires width_in_bounds { (width ≤ length row.old) × (l ≤ 4095) × (q ≤ 800) × (end ≤ 512) }
-    requires by_index { (o : ℕ) → o < width → get_or row.old o 0 + votes_of_line l q o from (end - from) < 2 ^ 32 }
+    requires limits { (width ≤ length row.old) × (l ≤ 4095) × (q ≤ 800) × (end ≤ 512) }
+    requires no_overflow { (o : ℕ) → o < width → get_or row.old o 0 + votes_of_line l q o from (end - from) < 2 ^ 32 }
     ensures { Added width (λ o. votes_of_line l q o from (end - from)) row.old row.new }
 {
     for n in from..end {
@@ -67,8 +67,8 @@ fn vote_line(row: &mut [u32], width: usize, l: usize, q: usize, from: usize, end
 
 // The votes of all lines with one q.
 fn vote_lines(row: &mut [u32], width: usize, lines: &[u32], e: u32, q: usize)
-    requires width_in_bounds { (width ≤ length row.old) × ((k : ℕ) → get_or lines.now k 0 ≤ 4095) × (q ≤ 800) }
-    requires by_index { (o : ℕ) → o < width → get_or row.old o 0 + votes e lines.now o q < 2 ^ 32 }
+    requires limits { (width ≤ length row.old) × ((k : ℕ) → get_or lines.now k 0 ≤ 4095) × (q ≤ 800) }
+    requires no_overflow { (o : ℕ) → o < width → get_or row.old o 0 + votes e lines.now o q < 2 ^ 32 }
     ensures { Added width (λ o. votes e lines.now o q) row.old row.new }
 {
     for k in 0..lines.len() {
@@ -110,8 +110,8 @@ fn best_in_row(row: &[u32], width: usize, q: usize, best: Choice) -> Choice
 
 // Offsets are searched up to 7 past the first line. The row is scratch: it holds their votes with one q at a time.
 pub fn winner_of(lines: &[u32], e: u32, row: &mut [u32]) -> Choice
-    requires lines_nonzero { (0 < length lines.now) × (length lines.now ≤ 4096) × ((k : ℕ) → get_or lines.now k 0 ≤ 4095) }
-    requires lines_in_bounds { get_or lines.now 0 0 + 8 ≤ length row.old }
+    requires lines_in { (0 < length lines.now) × (length lines.now ≤ 4096) × ((k : ℕ) → get_or lines.now k 0 ≤ 4095) }
+    requires room { get_or lines.now 0 0 + 8 ≤ length row.old }
     ensures { result ≡ winner e lines.now }
 {
     let width = lines[0] as usize + 8;

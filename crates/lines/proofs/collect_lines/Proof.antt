@@ -6,7 +6,7 @@ use mathlib.Core.Path.{◌≡◌, refl, sym, ◌∙◌}
 use native.Mathlib.Omega.{arith}
 use lib.ListN.{length}
 use Rattle.lines.specs.Lines.{is_line, places_of}
-use Rattle.lines.proofs.Collecting.{Collected, collected_none, collected-kept, collected-passed, collected_all}
+use Rattle.lines.proofs.Collecting.{Collected, collected_none, collected_kept, collected_passed, collected_all}
 use Rattle.lines.proofs.Collecting.{places_from, places_all, places_next, places_none}
 use borrow.Author.Rules.{rules}
 use Rattle.lines.proofs.collect_lines.Statement.{statement}
@@ -56,8 +56,8 @@ loop-again c =
     let next = places_next (is_line a.th a.t.now) at.i (length a.t.now) (omega arith) in
     let flag = sym c.is_line.ensures in
     ⊎_elim
-    (λ w. (omega arith, omega (arith, w.n-is), h.2, rw (w.lines-is, w.n-is) (collected-kept at.i h.3 next (flag ∙ w.if-is_line.true) (omega arith))))
-    (λ w. (omega arith, omega (arith, w.n-is), h.2, rw (w.lines-is, w.n-is) (collected-passed at.i h.3 next (flag ∙ w.if-is_line.false))))
+    (λ w. (omega arith, omega (arith, w.n-is), h.2, rw (w.lines-is, w.n-is) (collected_kept at.i h.3 next (flag ∙ w.if-is_line.true) (omega arith))))
+    (λ w. (omega arith, omega (arith, w.n-is), h.2, rw (w.lines-is, w.n-is) (collected_passed at.i h.3 next (flag ∙ w.if-is_line.false))))
     c.if-is_line.branch-raw
 
 same_length : tie.Need-shape_of-lines invariant-loop decreases-loop

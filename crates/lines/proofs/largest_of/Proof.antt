@@ -5,7 +5,7 @@ use mathlib.Core.Path.{◌≡◌}
 use native.Mathlib.Omega.{arith}
 use lib.ListN.{length, drop}
 use Rattle.lines.specs.Lines.{largest}
-use Rattle.lines.proofs.Windows.{max-next, max_none}
+use Rattle.lines.proofs.Windows.{max_next, max_none}
 use borrow.Author.Rules.{rules}
 use Rattle.lines.proofs.largest_of.Statement.{statement}
 use Rattle.lines.proofs.largest_of.Tie as tie
@@ -39,7 +39,7 @@ loop-again c =
     let s = c.args.s.now in
     let k = c.loop-k.k in
     let i = c.loop-k.invariant in
-    (omega arith, i.1, max-next c.loop-k.m s k i.2 (omega arith) c.larger-m.ensures)
+    (omega arith, i.1, max_next c.loop-k.m s k i.2 (omega arith) c.larger-m.ensures)
 
 returns : tie.Need-returns invariant-loop decreases-loop
 returns c = max_none _ c.loop-k.k (omega arith) c.loop-k.invariant.2

@@ -2,7 +2,7 @@
 use Prim.Native.Nat.{ℕ, ◌+◌, ◌≤◌}
 use native.Mathlib.Omega.{arith}
 use lib.ListN.{get_or}
-use Rattle.lines.proofs.Windows.{largest_at, largest-four}
+use Rattle.lines.proofs.Windows.{largest_at, largest_four}
 use borrow.Author.Rules.{rules}
 use Rattle.lines.proofs.largest_of_four.Statement.{statement}
 use Rattle.lines.proofs.largest_of_four.Tie as tie
@@ -60,7 +60,7 @@ larger-score-requires-3 c κs =
 
 returns : tie.Need-returns
 returns c =
-    let four = largest-four c.args.s.now c.args.at c.requires.0 in
+    let four = largest_four c.args.s.now c.args.at c.requires.0 in
     rw (four, c.larger_score-3.ensures, c.larger_score-2.ensures, c.larger_score.ensures)
 
 pub largest_of_four_spec : {M : Type 1} → statement M

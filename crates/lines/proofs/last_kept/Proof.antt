@@ -2,7 +2,7 @@
 use mathlib.Core.Path.{sym, ◌∙◌}
 use native.Mathlib.Omega.{arith}
 use lib.Seq.{take-length}
-use Rattle.lines.proofs.Drops.{last_alone, last-tested}
+use Rattle.lines.proofs.Drops.{last_alone, last_tested}
 use borrow.Author.Rules.{rules}
 use Rattle.lines.proofs.last_kept.Statement.{statement}
 use Rattle.lines.proofs.last_kept.Tie as tie
@@ -21,13 +21,13 @@ sub-result c = search rules
 returns-2 : tie.Need-returns-then-narrow_after
 returns-2 c =
     let a = c.args in
-    let t = last-tested a.e a.lines.now c.if-n-lt2.false in
+    let t = last_tested a.e a.lines.now c.if-n-lt2.false in
     (omega arith, rw (t, sym c.narrow_after.ensures ∙ c.if-narrow_after.true))
 
 returns-3 : tie.Need-returns-else-narrow_after
 returns-3 c =
     let a = c.args in
-    let t = last-tested a.e a.lines.now c.if-n-lt2.false in
+    let t = last_tested a.e a.lines.now c.if-n-lt2.false in
     (omega arith, rw (t, sym c.narrow_after.ensures ∙ c.if-narrow_after.false) (take-length _))
 
 pub last_kept_spec : {M : Type 1} → statement M

@@ -7,7 +7,7 @@ use mathlib.Core.Path.{◌≡◌, refl}
 use native.Mathlib.Omega.{arith}
 use lib.ListN.{length}
 use Rattle.lines.specs.Lines.{wide_gaps}
-use Rattle.lines.proofs.Collecting.{Collected, collected_none, collected-kept, collected-passed, collected_all}
+use Rattle.lines.proofs.Collecting.{Collected, collected_none, collected_kept, collected_passed, collected_all}
 use Rattle.lines.proofs.Collecting.{gaps_from, wide_next, wide_none}
 use borrow.Author.Rules.{rules}
 use Rattle.lines.proofs.wide_gaps.Statement.{statement}
@@ -69,9 +69,9 @@ loop-again c =
       omega arith,
       omega (arith, w.n-is),
       i.3,
-      rw (w.out-is, w.n-is) (collected-kept g i.4 next (lt-ltb 5 g w.if-g-gt5.true) (omega arith)),
+      rw (w.out-is, w.n-is) (collected_kept g i.4 next (lt-ltb 5 g w.if-g-gt5.true) (omega arith)),
     ))
-    (λ w. (omega arith, omega arith, omega (arith, w.n-is), i.3, rw (w.out-is, w.n-is) (collected-passed g i.4 next (le-ltb 5 g w.if-g-gt5.false))))
+    (λ w. (omega arith, omega arith, omega (arith, w.n-is), i.3, rw (w.out-is, w.n-is) (collected_passed g i.4 next (le-ltb 5 g w.if-g-gt5.false))))
     c.if-g-gt5.branch-raw
 
 same_length : tie.Need-shape_of-out invariant-loop decreases-loop
