@@ -48,7 +48,13 @@ swept_scores E from to c m = tab m (λ i. score E from to (at (c + i) 2))
 -- the lanes of strip i in the states of a sweep: lanes lie 4096 apart
 abbrev pub lanes_of : List ℕ → ℕ → Lanes
 lanes_of st i =
-    record { a = get_or st i 0; b = get_or st (4096 + i) 0; c = get_or st (8192 + i) 0; d = get_or st (12288 + i) 0; e = get_or st (16384 + i) 0 }
+    record {
+      a = get_or st i 0;
+      b = get_or st (4096 + i) 0;
+      c = get_or st (8192 + i) 0;
+      d = get_or st (12288 + i) 0;
+      e = get_or st (16384 + i) 0;
+    }
 
 -- strip i has new lanes, the other strips are as they were
 pub record Stored (before : List ℕ) (i : ℕ) (v : Lanes) (after : List ℕ) : Type 0 where

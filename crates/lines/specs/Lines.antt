@@ -1,5 +1,6 @@
 -- 01, "Lines and votes", first paragraph: the lines of a list s of scores, and the estimate e of their gap.
-use Rattle.std.specs.Prelude.{ℕ, ◌+◌, ◌-◌, min, max, Bool, cond, ◌&&◌, ◌||◌, List, [], ◌∷◌, leb, ltb, eqb, Float, length, get_or, take, drop}
+use Rattle.std.specs.Prelude.{ℕ, ◌+◌, ◌-◌, min, max, Bool, cond, ◌&&◌, ◌||◌}
+use Rattle.std.specs.Prelude.{List, [], ◌∷◌, leb, ltb, eqb, Float, length, get_or, take, drop}
 use Rattle.std.specs.Float.{binary32}
 use Rattle.std.specs.Float.Ieee.{le, add, mul, div, of_bits}
 use Rattle.lists.specs.Count.{count}

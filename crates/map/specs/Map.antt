@@ -1,5 +1,6 @@
 -- 02, R-6: the printed map and its refusals. Text is bytes of ASCII: 10 a line feed, 32 a space.
-use Rattle.std.specs.Prelude.{ℕ, ◌+◌, ◌-◌, ◌*◌, ◌≤◌, ◌<◌, ◌≡◌, true, cond, ◌&&◌, List, [], ◌∷◌, ◌++◌, T, eqb, leb, ltb, Float, length, get_or, replicate}
+use Rattle.std.specs.Prelude.{ℕ, ◌+◌, ◌-◌, ◌*◌, ◌≤◌, ◌<◌, ◌≡◌, true, cond, ◌&&◌}
+use Rattle.std.specs.Prelude.{List, [], ◌∷◌, ◌++◌, T, eqb, leb, ltb, Float, length, get_or, replicate}
 use Rattle.std.specs.Float.{nan, binary32}
 use Rattle.std.specs.Float.Ieee.{add, mul, of_bits, fits}
 use Rattle.binary32.specs.Binary32.{unit, trunc}

@@ -72,7 +72,7 @@ fn read_pixels<R: Read>(from: &mut R, height: usize, width: usize, pixels: &mut 
     if pixels.len() < n {
         return false;
     }
-    stream::read_full(from, &mut pixels[..n]) == n
+    stream::read_full(from, &mut pixels[..n]) == Ok(n)
 }
 
 // Loads a screen, locates its board by the factor and prints the line. The record of a screen that does not load is zeros, which
@@ -148,7 +148,7 @@ fn replayed<R: Read>(
     scratch_u32: &mut [u32],
 ) -> io::Result<bool> {
     let mut sides = [0u8; 4];
-    if stream::read_full(from, &mut sides) < 4 {
+    if stream::read_full(from, &mut sides) != Ok(4) {
         return Ok(false);
     }
     let height = wide(sides[0]) + 256 * wide(sides[1]);

@@ -1,5 +1,6 @@
 -- 01, "Cell sampling", its refusals, and 02, R-2 and R-5. All operations are binary32, in the order written.
-use Rattle.std.specs.Prelude.{ℕ, zero, suc, ◌*◌, ◌/◌, ◌%◌, ◌≤◌, ◌≡◌, Bool, true, false, not, cond, ◌&&◌, ◌||◌, List, [], eqb, ltb, Float, length}
+use Rattle.std.specs.Prelude.{ℕ, zero, suc, ◌*◌, ◌/◌, ◌%◌, ◌≤◌, ◌≡◌, Bool, true, false, not, cond, ◌&&◌, ◌||◌}
+use Rattle.std.specs.Prelude.{List, [], eqb, ltb, Float, length}
 use Rattle.std.specs.Float.{binary32}
 use Rattle.std.specs.Float.Ieee.{le, add, mul, div, of_bits}
 use Rattle.binary32.specs.Binary32.{float, trunc}
@@ -89,4 +90,5 @@ most_cell_values = 1728
 pub record CellFits (b : Board) (planes : List Float) (x y size : ℕ) : Type 0 where
   pub largest : most_cell_values ≡ 3 * (most_size * most_size)
   pub values_fit : (room : ℕ) → sample_answer b planes x y size room ≡ 0 → length (cell b planes x y size) ≤ most_cell_values
-  pub room_enough : (room : ℕ) → most_cell_values ≤ room → sample_answer b planes x y size room ≡ sample_answer b planes x y size most_cell_values
+  pub room_enough : (room : ℕ) → most_cell_values ≤ room
+      → sample_answer b planes x y size room ≡ sample_answer b planes x y size most_cell_values

@@ -2,12 +2,11 @@
 use Prim.Native.Nat.{ℕ, ◌+◌, ◌-◌}
 use mathlib.Core.Path.{◌≡◌, sym, ap, ◌∙◌}
 use mathlib.Core.Bool.{Bool}
-use mathlib.Core.List.{List, ◌++◌}
+use mathlib.Core.List.{◌++◌}
 use native.Mathlib.Omega.{arith}
 use lib.ListN.{take, drop}
 use Rattle.lists.specs.Picture.{points}
 use Rattle.lists.specs.Front.{AtFront}
-use Rattle.board.specs.declared.Bounds.{Bounds}
 use Rattle.strips.specs.Strip.{column_scores, row_scores}
 use Rattle.strips.specs.Inner.{Scorable}
 use Rattle.reading.specs.Reading.{quarters_of}

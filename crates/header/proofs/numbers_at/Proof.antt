@@ -1,6 +1,6 @@
 -- `header::numbers_at` meets its contract: the three ways to read two numbers (Numbers). No sum wraps, as a number has at most four digits.
 use Rattle.header.proofs.Numbers.{four_facts, first_bad, second_bad, both_good}
-use Prim.Native.Nat.{ℕ, ◌+◌}
+use Prim.Native.Nat.{◌+◌}
 use mathlib.Core.Path.{◌≡◌, sym, ◌∙◌}
 use mathlib.Core.Bool.{true}
 use native.Mathlib.Omega.{arith}

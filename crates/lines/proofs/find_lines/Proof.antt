@@ -1,7 +1,5 @@
 -- `lines::find_lines` meets its contract: the smoothed list stands at the front of the scratch.
 use Rattle.lines.specs.Lines.{lines_of}
-use Prim.Native.Nat.{ℕ}
-use mathlib.Core.List.{List}
 use native.Mathlib.Omega.{arith}
 use Rattle.lines.proofs.Smoothing.{smooth_part, length_smooth, largest_smooth}
 use borrow.Author.Rules.{rules}

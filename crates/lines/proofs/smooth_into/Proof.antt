@@ -1,7 +1,6 @@
 -- `lines::smooth_into` meets its contract. The invariant: the copy is smoothed up to i, which starts at 4. What is left of the list falls.
-use Prim.Native.Nat.{ℕ, ◌-◌, ◌≤◌, max}
+use Prim.Native.Nat.{◌-◌, ◌≤◌, max}
 use mathlib.Core.Path.{◌≡◌, refl}
-use mathlib.Core.List.{List}
 use native.Mathlib.Omega.{arith}
 use lib.ListN.{length}
 use lib.Seq.{take-length}

@@ -1,10 +1,8 @@
 -- `locate::get_pos_pixel` meets its contract, the promise with it: a refusal by the checks, or the work on scratch of 01's lengths.
-use Prim.Native.Nat.{ℕ}
 use mathlib.Core.Path.{◌≡◌, refl, sym, ◌∙◌}
 use native.Mathlib.Omega.{arith}
 use lib.ListN.{length-take}
 use lib.Seq.{drop_at, length-take-le}
-use Rattle.board.specs.declared.Board.{Board}
 use Rattle.board.specs.Board.{least_located}
 use Rattle.board.specs.Inner.{FactorIn, FitPlanes}
 use Rattle.locate.specs.Locate.{Lent, lent, checked}

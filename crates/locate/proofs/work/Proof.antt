@@ -1,7 +1,5 @@
 -- `locate::work` meets its contract: the last picture, and the two ways on from it.
-use Prim.Native.Nat.{ℕ}
 use Rattle.lists.specs.Front.{AtFront}
-use Rattle.board.specs.declared.Board.{Board}
 use Rattle.board.specs.Board.{least_located}
 use Rattle.board.specs.Inner.{FactorIn, FitPlanes}
 use Rattle.narrowings.specs.Loop.{edges_at, last_of}

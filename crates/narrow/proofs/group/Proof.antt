@@ -1,10 +1,8 @@
 -- `narrow::group` meets its contract: each list has the block of its point, of units, and what is selected is its median
 -- (proofs/Block).
 use Prim.Native.Nat.{◌+◌, ◌*◌, ◌≤◌}
-use mathlib.Core.List.{List}
 use native.Mathlib.Nat.{mul-pos}
 use native.Mathlib.Omega.{arith}
-use lib.Ieee.{Float}
 use lib.ListN.{length}
 use Rattle.lists.proofs.Tab.{tab_same}
 use Rattle.narrow.proofs.Block.{some, reached, row_first, column_first, list_units, list_median}

@@ -1,9 +1,7 @@
 -- `narrowings::look` meets its contract: the gradients stand at the front of the scratch, and threshold and bounds are taken from them.
-use Prim.Native.Nat.{ℕ, ◌-◌, ◌*◌}
+use Prim.Native.Nat.{◌-◌, ◌*◌}
 use mathlib.Core.Path.{◌≡◌, sym, ap, ◌∙◌}
-use mathlib.Core.List.{List}
 use native.Mathlib.Omega.{arith}
-use lib.Ieee.{Float}
 use lib.ListN.{length, take}
 use Rattle.board.specs.Board.{least_plane_side}
 use Rattle.board.specs.Inner.{SidesIn}

@@ -10,6 +10,7 @@ use borrow.Author.Rules.{rules}
 use Rattle.sample.proofs.extra_save_cell.Statement.{statement}
 use Rattle.sample.proofs.extra_save_cell.Tie as tie
 
+-- no answer of their own
 fit-planes : (c : tie.Else-refusal-ne0) → let a = c.args in
     planes_answer least_plane_side a.b.height a.b.width a.planes.now false ≡ 0
 fit-planes c = sym c.planes_answer-refusal.ensures ∙ c.if-refusal-ne0.false
