@@ -113,6 +113,11 @@ module _ {A : Type 0} where
         → get_or out r z ≡ get_or lent r z
     same_beyond z n h r b = front_beyond z r h (omega (arith, length-replicate n v))
 
+    -- and in one place more
+    pub same_next : (n : ℕ) {lent out : List A} → AtFront (replicate n v) lent out → n < length lent
+        → AtFront (replicate (n + 1) v) lent (set out n v)
+    same_next n h b = rw (← replicate-append-replicate n 1 v) (front_push v n (length-replicate n v) h b)
+
     -- and in m places more
     pub same_more : (n m : ℕ) {lent s last : List A} → AtFront (replicate n v) lent s
         → AtFront (replicate m v) (mid_of n (length s - n) s) last

@@ -9,81 +9,94 @@
 // proofs/Picture: a point as a number, and the flipped picture.
 #![tactic(auto)]
 
-ghost use Rattle.std.specs.Prelude.{◌≡◌, [], ◌∷◌, ◌^◌, ◌≤◌, leb, eqb, length, take, replicate};
+ghost use Rattle.std.specs.Prelude.{◌≡◌, ◌^◌, ◌≤◌, Bool, leb, eqb, length, take, replicate};
 ghost use Rattle.std.specs.Float.{binary32};
 ghost use Rattle.std.specs.Float.Ieee.{of_bits};
 ghost use Rattle.lists.specs.Count.{count};
 ghost use Rattle.lists.specs.Front.{AtFront};
 
 // The first n entries of `from` to the front of `to`.
-pub fn copy_f32(from: &[f32], n: usize, to: &mut [f32])
+pub fn copy_front<T: Copy>(from: &[T], n: usize, to: &mut [T])
     requires { (n ≤ length from.now) × (n ≤ length to.old) }
     ensures { AtFront (take n from.now) to.old to.new }
 {
-    for k in 0..n {
-        to[k] = from[k];
+    to[..n].copy_from_slice(&from[..n]);
+}
+
+// What a cleared entry holds.
+pub trait Zero {
+    ghost zero: { Self };
+
+    fn zero() -> Self
+        ensures { result ≡ zero };
+}
+
+impl Zero for f32 {
+    ghost zero = { of_bits binary32 0 };
+
+    fn zero() -> f32 {
+        0.0
     }
 }
 
-pub fn copy_u32(from: &[u32], n: usize, to: &mut [u32])
-    requires { (n ≤ length from.now) × (n ≤ length to.old) }
-    ensures { AtFront (take n from.now) to.old to.new }
-{
-    for k in 0..n {
-        to[k] = from[k];
+impl Zero for u32 {
+    ghost zero = { 0 };
+
+    fn zero() -> u32 {
+        0
     }
 }
 
 // Zeros in the first n entries.
-pub fn clear_f32(out: &mut [f32], n: usize)
+pub fn clear_front<T: Zero + Copy>(out: &mut [T], n: usize)
     requires { n ≤ length out.old }
-    ensures { AtFront (replicate n (of_bits binary32 0)) out.old out.new }
+    ensures { AtFront (replicate n T.zero) out.old out.new }
 {
     for k in 0..n {
-        out[k] = 0.0;
+        out[k] = T::zero();
     }
 }
 
-pub fn clear_u32(out: &mut [u32], n: usize)
-    requires { n ≤ length out.old }
-    ensures { AtFront (replicate n 0) out.old out.new }
-{
-    for k in 0..n {
-        out[k] = 0;
+// A test of single entries.
+pub trait Test<T> {
+    ghost passed: { Self → T → Bool };
+
+    fn passes(&self, x: T) -> bool
+        ensures { result ≡ passed self.now x };
+}
+
+// At most this number.
+#[derive(Clone, Copy)]
+pub struct AtMost(pub u32);
+
+impl Test<u32> for AtMost {
+    ghost passed = { λ test x. leb x test.0 };
+
+    fn passes(&self, x: u32) -> bool {
+        x <= self.0
     }
 }
 
-fn one_at_most(x: u32, v: u32) -> u32
-    ensures { result ≡ count (λ y. leb y v) (x ∷ []) }
-{
-    if x <= v { 1 } else { 0 }
+// This number.
+#[derive(Clone, Copy)]
+pub struct EqualTo(pub u32);
+
+impl Test<u32> for EqualTo {
+    ghost passed = { λ test x. eqb x test.0 };
+
+    fn passes(&self, x: u32) -> bool {
+        x == self.0
+    }
 }
 
-// How many entries are at most v. A counter of 32 bits keeps four lanes to a register.
-pub fn count_at_most(s: &[u32], v: u32) -> u32
-    requires { length s.now ≤ 2 ^ 24 }
-    ensures { result ≡ count (λ y. leb y v) s.now }
+// How many entries pass a test. A counter of 32 bits keeps four lanes to a register.
+pub fn count_passing<T: Copy, P: Test<T>>(s: &[T], test: &P) -> u32
+    requires { length s.now ≤ 2 ^ 26 }
+    ensures { result ≡ count (P.passed test.now) s.now }
 {
     let mut n: u32 = 0;
-    for k in 0..s.len() {
-        n = n + one_at_most(s[k], v);
-    }
-    n
-}
-
-fn one_equal(x: u32, v: u32) -> u32
-    ensures { result ≡ count (λ y. eqb y v) (x ∷ []) }
-{
-    if x == v { 1 } else { 0 }
-}
-
-pub fn count_equal(s: &[u32], v: u32) -> u32
-    requires { length s.now ≤ 2 ^ 24 }
-    ensures { result ≡ count (λ y. eqb y v) s.now }
-{
-    let mut n: u32 = 0;
-    for k in 0..s.len() {
-        n = n + one_equal(s[k], v);
+    for x in s {
+        n += test.passes(*x) as u32;
     }
     n
 }

@@ -6,6 +6,8 @@ ghost use Rattle.std.specs.Prelude.{◌≡◌, ◌≤◌, ◌^◌, length};
 ghost use Rattle.rank.specs.Rank.{self, entry};
 ghost use Rattle.rank.specs.Inner.{count_at_most};
 
+use lists::AtMost;
+
 // Entry j of s sorted rising, where no entry is above `most`; 0 where there is no entry j. It halves the range of values.
 pub fn entry_of(s: &[u32], j: usize, most: u32) -> u32
     requires { (length s.now ≤ 2 ^ 24) × (count_at_most self most s.now ≡ length s.now) }
@@ -18,7 +20,7 @@ pub fn entry_of(s: &[u32], j: usize, most: u32) -> u32
     let mut hi: u32 = most;
     while lo < hi {
         let mid = lo + (hi - lo) / 2;
-        if j < lists::count_at_most(s, mid) as usize {
+        if j < lists::count_passing(s, &AtMost(mid)) as usize {
             hi = mid;
         } else {
             lo = mid + 1;

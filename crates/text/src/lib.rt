@@ -21,11 +21,9 @@ pub fn put_bytes(out: &mut [u8], at: usize, bytes: &[u8]) -> usize
     requires { at + length bytes.now ≤ length out.old }
     ensures { Puts bytes.now at out.old result out.new }
 {
-    let mut next = at;
-    for k in 0..bytes.len() {
-        next = put(out, next, bytes[k]);
-    }
-    next
+    let end = at + bytes.len();
+    out[at..end].copy_from_slice(bytes);
+    end
 }
 
 // A line feed.
@@ -33,7 +31,7 @@ pub fn put_feed(out: &mut [u8], at: usize) -> usize
     requires { at < length out.old }
     ensures { Puts (10 ∷ []) at out.old result out.new }
 {
-    put(out, at, 10)
+    put(out, at, b'\n')
 }
 
 // So many spaces.
@@ -41,17 +39,16 @@ pub fn put_spaces(out: &mut [u8], at: usize, n: usize) -> usize
     requires { at + n ≤ length out.old }
     ensures { Puts (replicate n 32) at out.old result out.new }
 {
-    for k in 0..n {
-        out[at + k] = 32;
-    }
-    at + n
+    let end = at + n;
+    out[at..end].fill(b' ');
+    end
 }
 
 // The last digit.
 fn digit(n: u64) -> u8
     ensures { result ≡ 48 + n % 10 }
 {
-    (48 + n % 10) as u8
+    b'0' + (n % 10) as u8
 }
 
 // How many digits a number has.
@@ -61,8 +58,8 @@ pub fn digits(n: u64) -> usize
     let mut rest = n;
     let mut count = 1;
     while 10 <= rest {
-        rest = rest / 10;
-        count = count + 1;
+        rest /= 10;
+        count += 1;
     }
     count
 }
@@ -76,9 +73,9 @@ pub fn put_number(out: &mut [u8], at: usize, n: u64) -> usize
     let mut rest = n;
     let mut k = end;
     while 10 <= rest {
-        k = k - 1;
+        k -= 1;
         out[k] = digit(rest);
-        rest = rest / 10;
+        rest /= 10;
     }
     out[at] = digit(rest);
     end
@@ -89,7 +86,7 @@ fn put_next(out: &mut [u8], at: usize, n: u64) -> usize
     requires { at + length (32 ∷ decimal n) ≤ length out.old }
     ensures { Puts (32 ∷ decimal n) at out.old result out.new }
 {
-    let next = put(out, at, 32);
+    let next = put(out, at, b' ');
     put_number(out, next, n)
 }
 
@@ -98,12 +95,12 @@ pub fn put_numbers(out: &mut [u8], at: usize, numbers: &[u64]) -> usize
     requires { at + length (numbers_line numbers.now) ≤ length out.old }
     ensures { Puts (numbers_line numbers.now) at out.old result out.new }
 {
-    if numbers.len() == 0 {
+    let Some((first, others)) = numbers.split_first() else {
         return put_feed(out, at);
-    }
-    let mut next = put_number(out, at, numbers[0]);
-    for k in 1..numbers.len() {
-        next = put_next(out, next, numbers[k]);
+    };
+    let mut next = put_number(out, at, *first);
+    for number in others {
+        next = put_next(out, next, *number);
     }
     put_feed(out, next)
 }
