@@ -4,18 +4,24 @@
 #![tactic(auto)]
 
 ghost use Rattle.std.specs.Prelude.{◌≡◌, not, ◌^◌, ◌≤◌, length, take};
-ghost use Rattle.lists.specs.Picture.{bit};
 ghost use Rattle.binary32.specs.Binary32.{unit};
+ghost use Rattle.refusal.specs.Refusal.{answer_of};
 ghost use Rattle.board.specs.Board as Spec;
 ghost use Rattle.board.specs.Board.{LimitsAre, FactorsAre};
-ghost use Rattle.board.specs.Inner.{FactorIn};
 ghost use Rattle.board.specs.Planes.{all_units, planes_answer};
 ghost use Rattle.board.specs.Screen.{channel_of};
+
+use lists::Test;
+use refusal::Refusal;
+
+mod factor;
+
+pub use factor::Factor;
 
 // The board: its sides, its corner and its far corner, the offsets from the corner at which the grid of cells begins, its counts of rows
 // and columns, and its pitches.
 #[repr(C)]
-#[derive(Clone, Copy)]
+#[derive(Clone, Copy, Default)]
 pub struct Board {
     pub height: usize,
     pub width: usize,
@@ -32,6 +38,7 @@ pub struct Board {
 }
 
 // Rows r_1 to r_2 and columns c_1 to c_2 of a picture.
+#[repr(C)]
 #[derive(Clone, Copy)]
 pub struct Bounds {
     pub r_1: usize,
@@ -73,18 +80,9 @@ impl Board {
         ensures factors { FactorsAre Self.LEAST_FACTOR Self.MOST_FACTOR }
     {
         Board {
-            height: height,
-            width: width,
-            r_1: 0,
-            c_1: 0,
-            r_2: 0,
-            c_2: 0,
-            r0: 0,
-            c0: 0,
-            r: 0,
-            c: 0,
-            pixelr: 0.0,
-            pixelc: 0.0,
+            height,
+            width,
+            ..Board::default()
         }
     }
 
@@ -92,10 +90,11 @@ impl Board {
     pub fn resized(self, height: usize, width: usize) -> Self
         ensures { result ≡ Spec.resized self height width }
     {
-        let mut out = self;
-        out.height = height;
-        out.width = width;
-        out
+        Board {
+            height,
+            width,
+            ..self
+        }
     }
 
     // The record with what was read: both corners, and the cells of both axes. The sides stay.
@@ -103,8 +102,6 @@ impl Board {
         ensures { result ≡ Spec.with_reading self bounds rows columns }
     {
         Board {
-            height: self.height,
-            width: self.width,
             r_1: bounds.r_1,
             c_1: bounds.c_1,
             r_2: bounds.r_2,
@@ -115,104 +112,83 @@ impl Board {
             c: columns.count,
             pixelr: rows.pitch,
             pixelc: columns.pitch,
+            ..self
         }
     }
 }
 
 // Whether a number is below `least` or above `most`.
+#[tactic(auto, unfolding(crate::specs::Board::outside))]
 fn outside(least: usize, most: usize, n: usize) -> bool
     ensures { result ≡ Spec.outside least most n }
 {
-    if n < least {
-        return true;
-    }
-    most < n
+    n < least || most < n
 }
 
 // Whether a side is below `least` or above the largest.
+#[tactic(auto, unfolding(crate::specs::Board::sides_outside))]
 pub fn sides_outside(least: usize, height: usize, width: usize) -> bool
     ensures { result ≡ Spec.sides_outside least height width }
 {
-    if outside(least, Board::MOST_SIDE, height) {
-        return true;
+    outside(least, Board::MOST_SIDE, height) || outside(least, Board::MOST_SIDE, width)
+}
+
+// The test for a value that is no unit.
+struct NoUnit;
+
+impl Test<f32> for NoUnit {
+    ghost passed = { λ _ x. not (unit x) };
+
+    fn passes(&self, x: f32) -> bool {
+        !binary32::unit(x)
     }
-    outside(least, Board::MOST_SIDE, width)
-}
-
-// Whether a factor is one that no narrowing has.
-pub fn factor_outside(factor: usize) -> bool
-    ensures { result ≡ Spec.factor_outside factor }
-{
-    outside(Board::LEAST_FACTOR, Board::MOST_FACTOR, factor)
-}
-
-// The least side that is located with this factor.
-pub fn least_located(factor: usize) -> usize
-    requires { FactorIn factor }
-    ensures { result ≡ Spec.least_located factor }
-{
-    let n = 4 * factor;
-    if n < Board::LEAST_SIDE {
-        Board::LEAST_SIDE
-    } else {
-        n
-    }
-}
-
-// 1 for a value that is no unit.
-fn bad(x: f32) -> u32
-    ensures { result ≡ bit (not (unit x)) }
-{
-    if binary32::unit(x) { 0 } else { 1 }
 }
 
 // Whether the first n values are units. Counting without an early exit keeps four values to a register.
+#[tactic(auto, using(crate::proofs::Units::units_counted))]
 pub fn all_units(planes: &[f32], n: usize) -> bool
     requires { (n ≤ length planes.now) × (n ≤ 2 ^ 26) }
     ensures { result ≡ all_units (take n planes.now) }
 {
-    let mut count: u32 = 0;
-    for k in 0..n {
-        count = count + bad(planes[k]);
-    }
-    count == 0
+    lists::count_passing(&planes[..n], &NoUnit) == 0
 }
 
-// The answer to planes of these sides, 1, 3, 4 or 0. `short` tells whether another slice is short; with sides outside
+// Whether planes of these sides are fit: it refuses 1, 3 and 4. `short` tells whether another slice is short; with sides outside
 // the limits it is not looked at.
-pub fn planes_answer(least: usize, height: usize, width: usize, planes: &[f32], short: bool) -> u32
-    ensures { result ≡ planes_answer least height width planes.now short }
+#[tactic(auto, unfolding(crate::specs::Planes::planes_answer), using(crate::proofs::Sides::sides_in))]
+pub fn check_planes(
+    least: usize,
+    height: usize,
+    width: usize,
+    planes: &[f32],
+    short: bool,
+) -> Result<(), Refusal>
+    ensures { answer_of result ≡ planes_answer least height width planes.now short }
 {
     if sides_outside(least, height, width) {
-        return 1;
+        return Err(Refusal::BadSide);
     }
-    if planes.len() < 3 * (height * width) {
-        return 3;
+    let n = 3 * (height * width);
+    if planes.len() < n || short {
+        return Err(Refusal::ShortSlice);
     }
-    if short {
-        return 3;
+    if !all_units(planes, n) {
+        return Err(Refusal::BadValue);
     }
-    if all_units(planes, 3 * (height * width)) {
-        return 0;
-    }
-    4
+    Ok(())
 }
 
 // Whether plane k of these sides stands among `len` values.
+#[tactic(auto, unfolding(crate::specs::Board::has_channel), using(crate::proofs::Sides::sides_in))]
 fn has_channel(height: usize, width: usize, len: usize, k: usize) -> bool
     ensures { result ≡ Spec.has_channel height width len k }
 {
-    if 2 < k {
-        return false;
-    }
-    if sides_outside(Board::LEAST_PLANE_SIDE, height, width) {
-        return false;
-    }
-    3 * (height * width) <= len
+    k <= 2 && !sides_outside(Board::LEAST_PLANE_SIDE, height, width) && 3 * (height * width) <= len
 }
 
 // The plane of one channel, a part of the lent planes; empty if k is above 2, a side is out of bounds or the planes are short.
-pub fn channel<'a>(height: usize, width: usize, planes: &'a [f32], k: usize) -> &'a [f32]
+#[tactic(auto, unfolding(crate::specs::Screen::channel_of), using(crate::proofs::Sides::stands))]
+pub fn channel(height: usize, width: usize, planes: &[f32], k: usize) -> &[f32]
     ensures { result.now ≡ channel_of height width planes.now k }
 {
     if has_channel(height, width, planes.len(), k) {
