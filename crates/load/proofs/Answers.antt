@@ -1,4 +1,4 @@
--- What the answer of a load tells: 0 that all is fit, another number that nothing is written. Assumes nothing.
+-- What an answer of 0 tells: all is fit. Assumes nothing.
 use Prim.Native.Nat.{ℕ, ◌*◌, ◌≤◌}
 use mathlib.Core.Path.{◌≡◌}
 use mathlib.Core.List.{List}
@@ -25,9 +25,3 @@ loadable h w pixels planes e =
     let b = passed (ltb pixels (4 * (h * w))) 1 _ a.1 in
     let c = passed (ltb planes (3 * (h * w))) 2 _ b.1 in
     record { sides = sides_in least_side h w a.0; pixels_in = ltb-false _ _ b.0; planes_in = ltb-false _ _ c.0 }
-
-pub refuses : (top h w : ℕ) (pixels : List ℕ) (planes : List Float) (r : Loaded)
-    → r.answer ≡ load_answer h w (length pixels) (length planes)
-    → (r.answer ≡ 0 → ⊥) → r.board ≡ blank → LoadGives top h w pixels planes r planes
-refuses top h w pixels planes r a n b =
-    record { answer_is = a; board_is = rw (ne_eqb r.answer 0 n) b; planes_are = rw (ne_eqb r.answer 0 n) front_none }

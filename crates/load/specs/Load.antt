@@ -1,11 +1,14 @@
 -- 01, "Load", and its refusals, over `top`, the largest number of a channel.
-use Rattle.std.specs.Prelude.{ℕ, ◌+◌, ◌-◌, ◌*◌, ◌≡◌, cond, List, [], eqb, ltb, Float, length, get_or}
+use Rattle.std.specs.Prelude.{ℕ, ◌+◌, ◌-◌, ◌*◌, ◌≡◌, cond, List, [], eqb, ltb, Float, length, get_or, Result, Ok, Err}
 use Rattle.std.specs.Float.{binary32}
 use Rattle.std.specs.Float.Ieee.{div}
 use Rattle.lists.specs.Front.{AtFront}
 use Rattle.binary32.specs.Binary32.{float}
 use Rattle.board.specs.Board.{least_side, sides_outside, fresh, blank}
 use Rattle.board.specs.Screen.{Screen, packed}
+use Rattle.board.specs.declared.Board.{Board}
+use Rattle.refusal.specs.declared.Refusal.{Refusal}
+use Rattle.refusal.specs.Refusal.{number}
 use Rattle.load.specs.declared.Loaded.{Loaded}
 
 -- the largest byte
@@ -25,6 +28,11 @@ unfoldable pub load_answer : ℕ → ℕ → ℕ → ℕ → ℕ
 unfolding sides_outside
 load_answer h w pixels planes =
     cond (sides_outside least_side h w) 1 (cond (ltb pixels (4 * (h * w))) 2 (cond (ltb planes (3 * (h * w))) 3 0))
+
+-- a record, or a refusal, as C has it
+abbrev pub loaded_of : Result Board Refusal → Loaded
+loaded_of (Ok b) = record { board = b; answer = 0 }
+loaded_of (Err r) = record { board = blank; answer = number r }
 
 -- what a call with these pixels answers, and what the planes hold before and after: on a refusal a record of zeros, and nothing is written
 pub record LoadGives (top h w : ℕ) (pixels : List ℕ) (before : List Float) (r : Loaded) (after : List Float) : Type 0 where

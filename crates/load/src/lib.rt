@@ -6,17 +6,34 @@ ghost use Rattle.std.specs.Prelude.{◌≡◌, ◌+◌, ◌*◌, ◌≤◌, ◌<
 ghost use Rattle.lists.specs.Front.{AtFront};
 ghost use Rattle.board.specs.Screen.{packed};
 ghost use Rattle.load.specs.Load as Spec;
-ghost use Rattle.load.specs.Load.{most_byte, shown, load_answer, LoadGives};
+ghost use Rattle.refusal.specs.Refusal.{answer_of};
+ghost use Rattle.load.specs.Load.{most_byte, shown, load_answer, loaded_of, LoadGives};
 ghost use Rattle.load.specs.Inner.{Bytes, PixelAt};
 
 use board::Board;
+use refusal::Refusal;
 
-// A record and the answer: 0, or the number of the refusal.
+// What a load hands back as C has it: a record and the answer, 0 or the number of the refusal.
 #[repr(C)]
 #[derive(Clone, Copy)]
 pub struct Loaded {
     pub board: Board,
     pub answer: u32,
+}
+
+// A refusal hands back a record of zeros.
+impl From<Result<Board, Refusal>> for Loaded {
+    ghost from_gives = { λ outcome loaded. loaded ≡ loaded_of outcome };
+
+    fn from(outcome: Result<Board, Refusal>) -> Loaded {
+        match outcome {
+            Ok(board) => Loaded { board, answer: 0 },
+            Err(refusal) => Loaded {
+                board: Board::fresh(0, 0),
+                answer: u32::from(refusal),
+            },
+        }
+    }
 }
 
 // The four bytes of a pixel as one number: in a function of its own it becomes one load of 32 bits.
@@ -33,6 +50,7 @@ fn pixel(pixels: &[u8], at: usize) -> u32
     joined(pixels[at], pixels[at + 1], pixels[at + 2], pixels[at + 3])
 }
 
+#[tactic(auto, unfolding(crate::specs::Load::level))]
 fn level(b: u8) -> f32
     ensures { result ≡ Spec.level most_byte b }
 {
@@ -54,36 +72,30 @@ fn load_planes(height: usize, width: usize, pixels: &[u8], planes: &mut [f32])
     }
 }
 
-fn load_answer(height: usize, width: usize, pixels: usize, planes: usize) -> u32
-    ensures { result ≡ load_answer height width pixels planes }
+// The refusals, for so many bytes of pixels and values of planes.
+#[tactic(auto, unfolding(crate::specs::Load::load_answer), using(board::proofs::Sides::sides_in))]
+fn check(height: usize, width: usize, pixels: usize, planes: usize) -> Result<(), Refusal>
+    ensures { answer_of result ≡ load_answer height width pixels planes }
 {
     if board::sides_outside(Board::LEAST_SIDE, height, width) {
-        return 1;
+        return Err(Refusal::BadSide);
     }
     let n = height * width;
     if pixels < 4 * n {
-        return 2;
+        return Err(Refusal::ShortPixels);
     }
     if planes < 3 * n {
-        return 3;
+        return Err(Refusal::ShortSlice);
     }
-    0
+    Ok(())
 }
 
-// Loads a screen into the lent planes and hands back its fresh record. A refusal writes nothing and hands back a record of zeros.
-pub fn new(height: usize, width: usize, pixels: &[u8], planes: &mut [f32]) -> Loaded
-    ensures { LoadGives most_byte height width pixels.now planes.old result planes.new }
+// Loads a screen into the lent planes and hands back its fresh record. A refusal writes nothing.
+#[tactic(auto, using(crate::proofs::Answers::loadable))]
+pub fn new(height: usize, width: usize, pixels: &[u8], planes: &mut [f32]) -> Result<Board, Refusal>
+    ensures { LoadGives most_byte height width pixels.now planes.old (loaded_of result) planes.new }
 {
-    let answer = load_answer(height, width, pixels.len(), planes.len());
-    if answer != 0 {
-        return Loaded {
-            board: Board::fresh(0, 0),
-            answer: answer,
-        };
-    }
+    check(height, width, pixels.len(), planes.len())?;
     load_planes(height, width, pixels, planes);
-    Loaded {
-        board: Board::fresh(height, width),
-        answer: 0,
-    }
+    Ok(Board::fresh(height, width))
 }
