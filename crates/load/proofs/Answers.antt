@@ -1,17 +1,12 @@
 -- What an answer of 0 tells: all is fit. Assumes nothing.
 use Prim.Native.Nat.{ℕ, ◌*◌, ◌≤◌}
 use mathlib.Core.Path.{◌≡◌}
-use mathlib.Core.List.{List}
-use borrow.Author.Tests.{ltb-false, ne_eqb}
+use borrow.Author.Tests.{ltb-false}
 use lib.Dec.{ltb}
-use lib.Ieee.{Float}
-use lib.ListN.{length}
-use Rattle.lists.proofs.Front.{front_none}
-use Rattle.board.specs.Board.{least_side, sides_outside, blank}
+use Rattle.board.specs.Board.{least_side, sides_outside}
 use Rattle.board.specs.Inner.{SidesIn}
 use Rattle.board.proofs.Sides.{sides_in, passed}
-use Rattle.load.specs.declared.Loaded.{Loaded}
-use Rattle.load.specs.Load.{load_answer, LoadGives}
+use Rattle.load.specs.Load.{load_answer}
 
 pub record Loadable (h w pixels planes : ℕ) : Type 0 where
   pub sides : SidesIn least_side h w

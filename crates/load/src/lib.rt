@@ -50,7 +50,7 @@ fn pixel(pixels: &[u8], at: usize) -> u32
     joined(pixels[at], pixels[at + 1], pixels[at + 2], pixels[at + 3])
 }
 
-#[tactic(auto, unfolding(crate::specs::Load::level))]
+#[tactic(auto, unfolding(crate::specs::Load::level), using(crate::proofs::Units::byte_top))]
 fn level(b: u8) -> f32
     ensures { result ≡ Spec.level most_byte b }
 {

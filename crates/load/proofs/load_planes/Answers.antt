@@ -1,12 +1,11 @@
-use Prim.Native.Nat.{◌-◌, ◌*◌, ◌≤◌}
+use Prim.Native.Nat.{◌*◌}
 use mathlib.Core.Path.{◌≡◌, ◌∙◌}
 use native.Mathlib.Omega.{arith}
 use lib.Ieee.{nan}
 use lib.ListN.{length-set}
 use Rattle.load.specs.Load.{most_byte}
-use Rattle.load.proofs.Planes.{Laid, laid_none, laid_more, laid_all}
-use Rattle.load.proofs.Shown.{shown_at, value_is}
-use borrow.Author.Rules.{rules}
+use Rattle.load.proofs.Planes.{laid_none, laid_more, laid_all}
+use Rattle.load.proofs.Shown.{value_is}
 use Rattle.load.proofs.load_planes.Goals as goal
 
 pub loop-i-init : goal.loop-i-init

@@ -1,14 +1,10 @@
 -- `load::load_planes` meets its contract. The invariant: the first i places of each plane have their value.
 -- What is left of the places falls.
-use Prim.Native.Nat.{◌-◌, ◌*◌, ◌≤◌}
-use mathlib.Core.Path.{◌≡◌, ◌∙◌}
-use native.Mathlib.Omega.{arith}
+use Prim.Native.Nat.{◌-◌, ◌≤◌}
 use lib.Ieee.{nan}
-use lib.ListN.{length-set}
 use Rattle.load.specs.Load.{most_byte}
-use Rattle.load.proofs.Planes.{Laid, laid_none, laid_more, laid_all}
-use Rattle.load.proofs.Shown.{shown_at, value_is}
-use borrow.Author.Rules.{rules}
+use Rattle.load.proofs.Planes.{Laid}
+use Rattle.load.proofs.Shown.{shown_at}
 use Rattle.load.proofs.load_planes.Given as goal
 
 abbrev pub invariant-loop-i : goal.invariant-loop-i
