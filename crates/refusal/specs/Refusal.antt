@@ -1,5 +1,5 @@
 -- The numbers of the refusals: 01, "How each operation declines", and 02.
-use Rattle.std.specs.Prelude.{ℕ, Result, Ok, Err, ⊤}
+use Rattle.std.specs.Prelude.{ℕ, Result, Ok, Err}
 use Rattle.refusal.specs.declared.Refusal.{Refusal}
 use Rattle.refusal.specs.declared.Refusal.TheVariants as The
 
@@ -21,6 +21,6 @@ number The.NotOnBoard = 14
 number The.TooWide = 15
 
 -- 0 where the work was done
-abbrev pub answer_of : Result ⊤ Refusal → ℕ
+abbrev pub answer_of : {A : Type 0} → Result A Refusal → ℕ
 answer_of (Ok _) = 0
 answer_of (Err r) = number r

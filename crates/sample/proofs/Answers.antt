@@ -6,7 +6,7 @@ use mathlib.Core.List.{List}
 use native.Mathlib.Nat.{not-suc-le-zero, mul-le-mul}
 use native.Mathlib.Omega.{arith}
 use borrow.Author.Tests.{ltb-true, ltb-false, le-ltb, ne_eqb}
-use lib.Dec.{ltb}
+use lib.Dec.{ltb, eqb}
 use lib.Ieee.{Float}
 use lib.ListN.{length}
 use Rattle.lists.specs.Front.{AtFront}
@@ -18,6 +18,7 @@ use Rattle.board.specs.Planes.{planes_answer}
 use Rattle.sample.specs.Inner.{AxisIn, CellGives}
 use Rattle.sample.specs.Sample.{most_number, row_at, column_at, pitch_outside, all_below, numbers_above, on_board, cell, cell_answer}
 use Rattle.sample.specs.Sample.{sample_answer, SampleGives, most_cell_values}
+use Rattle.sample.specs.Fit.{corner_above, record_answer}
 
 -- two rules that agree below n
 pub all_below_same : (f g : ℕ → ℕ) (limit n : ℕ) → ((i : ℕ) → i < n → f i ≡ g i) → all_below f limit n ≡ all_below g limit n
@@ -34,6 +35,14 @@ below_at f limit (suc n) e i b =
     go : (t : Bool) → ltb i n ≡ t → (i < n → f i < limit) → f n < limit → f i < limit
     go true q h l = h (ltb-true i n q)
     go false q h l = let s : i ≡ n = omega (arith, ltb-false i n q) in rw s l
+
+-- and a place that is not below
+pub not_below : (f : ℕ → ℕ) (limit n i : ℕ) → i < n → limit ≤ f i → all_below f limit n ≡ false
+not_below f limit n i b h = go (all_below f limit n) refl
+  where
+    go : (t : Bool) → all_below f limit n ≡ t → t ≡ false
+    go true e = let l = below_at f limit n e i b in absurd (omega arith)
+    go false e = refl
 
 -- numbers within the limits
 pub record NumbersIn (x y r₁ c₁ r₀ c₀ size : ℕ) : Type 0 where
@@ -85,6 +94,37 @@ cell_in b x y size room e =
       rows = below_at (row_at b x size) b.height size a.0;
       columns = below_at (column_at b y size) b.width size a.1;
     }
+
+-- the same in the order of the code: what decides of the record comes first
+of_both : (u a b c d s : Bool) → ((((u || a) || b) || c) || d || s) ≡ (u || (((a || b) || c) || d || s))
+of_both true a b c d s = refl
+of_both false a b c d s = refl
+
+record_first : (p u k s : Bool) (rest : ℕ)
+    → ◌≡◌ {A = ℕ} (cond p 10 (cond (u || (k || s)) 11 rest))
+    (cond (eqb (cond p 10 (cond k 11 0)) 0) (cond (u || s) 11 rest) (cond p 10 (cond k 11 0)))
+record_first true u k s rest = refl
+record_first false true true s rest = refl
+record_first false true false s rest = refl
+record_first false false true s rest = refl
+record_first false false false s rest = refl
+
+abbrev pub later_answer : Board → ℕ → ℕ → ℕ → ℕ → ℕ
+later_answer b x y size room =
+    cond (ltb most_number x || ltb most_number y || ltb most_size size) 11
+    (cond (not (on_board b x y)) 14
+    (cond (ltb room (3 * (size * size))) 3
+    (cond (all_below (row_at b x size) b.height size && all_below (column_at b y size) b.width size) 0 12)))
+
+pub cell_by_record : (b : Board) (x y size room : ℕ)
+    → cell_answer b x y size room ≡ cond (eqb (record_answer b) 0) (later_answer b x y size room) (record_answer b)
+unfolding cell_answer record_answer numbers_above corner_above
+cell_by_record b x y size room =
+    let both = of_both (ltb most_number x || ltb most_number y) (ltb most_number b.r_1) (ltb most_number b.c_1) (ltb most_number b.r0)
+    (ltb most_number b.c0)
+    (ltb most_size size) in
+    rw both
+    (record_first (pitch_outside b.pixelr || pitch_outside b.pixelc) _ _ _ _)
 
 -- where the numbers pass and the cell is on the board, the places decide
 pub decided : (b : Board) (x y size room : ℕ) → (pitch_outside b.pixelr || pitch_outside b.pixelc) ≡ false

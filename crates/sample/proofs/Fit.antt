@@ -23,7 +23,7 @@ passed_both first later e = go (eqb first 0) refl e
 at_most : (n : ℕ) → ltb most_number n ≡ false → n ≤ most_number
 at_most = ltb-false most_number
 
-record_in : (b : Board) → record_answer b ≡ 0 → RecordIn b
+pub record_in : (b : Board) → record_answer b ≡ 0 → RecordIn b
 unfolding record_answer corner_above
 record_in b e =
     let p = passed (pitch_outside b.pixelr || pitch_outside b.pixelc) 9 _ e in

@@ -8,178 +8,98 @@ ghost use Rattle.std.specs.Prelude.{◌≡◌, ℕ, ◌+◌, ◌*◌, ◌≤◌,
 ghost use Rattle.lists.specs.Front.{AtFront};
 ghost use Rattle.lists.specs.Inner.{Placed};
 ghost use Rattle.lists.specs.Tab.{tab, grid};
-ghost use Rattle.board.specs.Board.{most_size};
+ghost use Rattle.refusal.specs.Refusal.{answer_of};
 ghost use Rattle.sample.specs.Sample as Spec;
-ghost use Rattle.sample.specs.Sample.{sampled_at, cell, all_below, cell_answer, SampleGives};
+ghost use Rattle.sample.specs.Sample.{cell, cell_answer, SampleGives};
 ghost use Rattle.sample.specs.Fit.{corner_above, record_answer, fit_answer};
-ghost use Rattle.sample.specs.Inner.{CellGives, AxisIn, row_value, plane_value};
+ghost use Rattle.sample.specs.Inner.{CellGives, row_value, plane_value};
 
 use board::Board;
+use refusal::Refusal;
+
+mod axis;
+
+pub use axis::Axis;
 
 // The most that a cell's numbers and a record's corner and offset may be.
 const MOST_NUMBER: usize = 4096;
 
+#[tactic(auto, unfolding(crate::specs::Sample::pitch_outside))]
 fn pitch_outside(p: f32) -> bool
     ensures { result ≡ Spec.pitch_outside p }
 {
-    !((p >= 8.0) & (p <= 200.0))
+    !(p >= 8.0 && p <= 200.0)
 }
 
-fn numbers_above(
-    x: usize,
-    y: usize,
-    r_1: usize,
-    c_1: usize,
-    r0: usize,
-    c0: usize,
-    size: usize,
-) -> bool
-    ensures { result ≡ Spec.numbers_above x y r_1 c_1 r0 c0 size }
-{
-    (MOST_NUMBER < x)
-        | (MOST_NUMBER < y)
-        | (MOST_NUMBER < r_1)
-        | (MOST_NUMBER < c_1)
-        | (MOST_NUMBER < r0)
-        | (MOST_NUMBER < c0)
-        | (Board::MOST_SIZE < size)
-}
-
+// Whether the corner or the offset of a record is above the most.
+#[tactic(auto, unfolding(crate::specs::Fit::corner_above))]
 fn corner_above(b: Board) -> bool
     ensures { result ≡ corner_above b }
 {
-    (MOST_NUMBER < b.r_1) | (MOST_NUMBER < b.c_1) | (MOST_NUMBER < b.r0) | (MOST_NUMBER < b.c0)
+    MOST_NUMBER < b.r_1 || MOST_NUMBER < b.c_1 || MOST_NUMBER < b.r0 || MOST_NUMBER < b.c0
 }
 
-fn record_answer(b: Board) -> u32
-    ensures { result ≡ record_answer b }
+// The refusals 10 and 11 of a record by itself.
+#[tactic(auto, unfolding(crate::specs::Fit::record_answer))]
+fn check_record(b: Board) -> Result<(), Refusal>
+    ensures { answer_of result ≡ record_answer b }
 {
-    if pitch_outside(b.pixelr) | pitch_outside(b.pixelc) {
-        return 10;
+    if pitch_outside(b.pixelr) || pitch_outside(b.pixelc) {
+        return Err(Refusal::BadPitch);
     }
     if corner_above(b) {
-        return 11;
+        return Err(Refusal::BadNumber);
     }
-    0
+    Ok(())
 }
 
-// Whether record and planes are fit for sampling: 0, or the refusal. All planes are read.
-pub fn fit_answer(b: Board, planes: &[f32]) -> u32
-    ensures { result ≡ fit_answer b planes.now }
+// Whether record and planes are fit for sampling, or why not. All planes are read.
+#[tactic(auto, unfolding(crate::specs::Fit::fit_answer))]
+pub fn check_fit(b: Board, planes: &[f32]) -> Result<(), Refusal>
+    ensures { answer_of result ≡ fit_answer b planes.now }
 {
-    let refusal = board::planes_answer(Board::LEAST_PLANE_SIDE, b.height, b.width, planes, false);
-    if refusal != 0 {
-        return refusal;
-    }
-    record_answer(b)
+    board::check_planes(Board::LEAST_PLANE_SIDE, b.height, b.width, planes, false)?;
+    check_record(b)
 }
 
 // Of the record only the counts are looked at: a caller may have set them and no far corner.
+#[tactic(auto, unfolding(crate::specs::Sample::on_board))]
 fn on_board(b: Board, x: usize, y: usize) -> bool
     ensures { result ≡ Spec.on_board b x y }
 {
-    (x < b.r) & (y < b.c)
+    x < b.r && y < b.c
 }
 
-// The row, or the column, of point i of a cell.
-pub fn sampled_at(
-    corner: usize,
-    offset: usize,
-    pitch: f32,
-    x: usize,
-    size: usize,
-    i: usize,
-) -> usize
-    requires axis_in { AxisIn corner offset x size }
-    requires point_in { i < size }
-    ensures { result ≡ sampled_at corner offset pitch x size i }
+// The refusals where the planes are fit: all is decided here, from numbers alone.
+fn check_cell(b: Board, x: usize, y: usize, size: usize, room: usize) -> Result<(), Refusal>
+    ensures { answer_of result ≡ cell_answer b x y size room }
 {
-    binary32::trunc(
-        corner as f32
-            + offset as f32
-            + pitch * x as f32
-            + pitch / 2.0 / size as f32 * (i as f32 * 2.0 + 1.0),
-    ) as usize
-}
-
-// The rows, or the columns, of a cell's points.
-fn places(
-    corner: usize,
-    offset: usize,
-    pitch: f32,
-    x: usize,
-    size: usize,
-) -> [usize; Board::MOST_SIZE]
-    requires { AxisIn corner offset x size }
-    ensures { (i : ℕ) → i < size → get_or result i 0 ≡ sampled_at corner offset pitch x size i }
-{
-    let mut at: [usize; Board::MOST_SIZE] = [0; Board::MOST_SIZE];
-    for i in 0..size {
-        at[i] = sampled_at(corner, offset, pitch, x, size, i);
-    }
-    at
-}
-
-// Whether the first `size` places are below the limit. No early end: they are few.
-fn all_below(at: &[usize; Board::MOST_SIZE], size: usize, limit: usize) -> bool
-    requires { size ≤ most_size }
-    ensures { result ≡ all_below (λ i. get_or at.now i 0) limit size }
-{
-    let mut ok = true;
-    for i in 0..size {
-        ok = ok & (at[i] < limit);
-    }
-    ok
-}
-
-// Whether the rows, or the columns, of a cell are below the picture's side.
-fn inside(corner: usize, offset: usize, pitch: f32, x: usize, size: usize, side: usize) -> bool
-    requires { AxisIn corner offset x size }
-    ensures { result ≡ all_below (sampled_at corner offset pitch x size) side size }
-{
-    let at = places(corner, offset, pitch, x, size);
-    all_below(&at, size, side)
-}
-
-// The answer where the planes are fit: all that can refuse is decided here, from numbers alone.
-fn cell_answer(b: Board, x: usize, y: usize, size: usize, room: usize) -> u32
-    ensures { result ≡ cell_answer b x y size room }
-{
-    if pitch_outside(b.pixelr) | pitch_outside(b.pixelc) {
-        return 10;
-    }
-    if numbers_above(x, y, b.r_1, b.c_1, b.r0, b.c0, size) {
-        return 11;
+    check_record(b)?;
+    if MOST_NUMBER < x || MOST_NUMBER < y || Board::MOST_SIZE < size {
+        return Err(Refusal::BadNumber);
     }
     if !on_board(b, x, y) {
-        return 14;
+        return Err(Refusal::NotOnBoard);
     }
     if room < 3 * (size * size) {
-        return 3;
+        return Err(Refusal::ShortSlice);
     }
-    if inside(b.r_1, b.r0, b.pixelr, x, size, b.height)
-        & inside(b.c_1, b.c0, b.pixelc, y, size, b.width)
-    {
-        return 0;
+    if !Axis::rows(b, x, size).inside(b.height) {
+        return Err(Refusal::Outside);
     }
-    12
+    if !Axis::columns(b, y, size).inside(b.width) {
+        return Err(Refusal::Outside);
+    }
+    Ok(())
 }
 
 // One row of a cell: the values at `columns` past `from`.
-fn copy_row(
-    planes: &[f32],
-    from: usize,
-    columns: &[usize; Board::MOST_SIZE],
-    size: usize,
-    out: &mut [f32],
-    to: usize,
-)
-    requires room { (size ≤ most_size) × (to + size ≤ length out.old) }
-    requires places_in { (j : ℕ) → j < size → from + get_or columns.now j 0 < length planes.now }
-    ensures { Placed (tab size (row_value planes.now from columns.now)) to
-        out.old out.new }
+fn copy_row(planes: &[f32], from: usize, columns: &[usize], out: &mut [f32], to: usize)
+    requires room { to + length columns.now ≤ length out.old }
+    requires places_in { (j : ℕ) → j < length columns.now → from + get_or columns.now j 0 < length planes.now }
+    ensures { Placed (tab (length columns.now) (row_value planes.now from columns.now)) to out.old out.new }
 {
-    for j in 0..size {
+    for j in 0..columns.len() {
         out[to + j] = planes[from + columns[j]];
     }
 }
@@ -189,25 +109,24 @@ fn copy_plane(
     planes: &[f32],
     from: usize,
     width: usize,
-    rows: &[usize; Board::MOST_SIZE],
-    columns: &[usize; Board::MOST_SIZE],
-    size: usize,
+    rows: &[usize],
+    columns: &[usize],
     out: &mut [f32],
     to: usize,
 )
-    requires room { (size ≤ most_size) × (to + size * size ≤ length out.old) }
-    requires places_in { (i j : ℕ) → i < size → j < size → from + get_or rows.now i 0 * width + get_or columns.now j 0 < length planes.now }
-    ensures { Placed (grid size size (plane_value planes.now from width rows.now columns.now)) to
+    requires room { (length rows.now ≡ length columns.now) × (to + length rows.now * length columns.now ≤ length out.old) }
+    requires places_in { (i j : ℕ) → i < length rows.now → j < length columns.now →
+        from + get_or rows.now i 0 * width + get_or columns.now j 0 < length planes.now }
+    ensures { Placed (grid (length rows.now) (length columns.now) (plane_value planes.now from width rows.now columns.now)) to
         out.old out.new }
 {
-    for i in 0..size {
+    for i in 0..rows.len() {
         copy_row(
             planes,
             from + rows[i] * width,
             columns,
-            size,
             out,
-            to + i * size,
+            to + i * columns.len(),
         );
     }
 }
@@ -218,16 +137,15 @@ fn copy_cell(b: Board, planes: &[f32], x: usize, y: usize, size: usize, out: &mu
     requires answered { cell_answer b x y size (length out.old) ≡ 0 }
     ensures { AtFront (cell b planes.now x y size) out.old out.new }
 {
-    let rows = places(b.r_1, b.r0, b.pixelr, x, size);
-    let columns = places(b.c_1, b.c0, b.pixelc, y, size);
+    let rows = Axis::rows(b, x, size).places();
+    let columns = Axis::columns(b, y, size).places();
     for k in 0..3 {
         copy_plane(
             planes,
             k * (b.height * b.width),
             b.width,
-            &rows,
-            &columns,
-            size,
+            &rows[..size],
+            &columns[..size],
             out,
             k * (size * size),
         );
@@ -235,18 +153,24 @@ fn copy_cell(b: Board, planes: &[f32], x: usize, y: usize, size: usize, out: &mu
 }
 
 // A cell, without the check of plane values: a call over many cells could make it once.
-pub fn cell_of(b: Board, planes: &[f32], x: usize, y: usize, size: usize, out: &mut [f32]) -> u32
+pub fn cell_of(
+    b: Board,
+    planes: &[f32],
+    x: usize,
+    y: usize,
+    size: usize,
+    out: &mut [f32],
+) -> Result<(), Refusal>
     requires { 3 * (b.height * b.width) ≤ length planes.now }
-    ensures { CellGives b planes.now x y size out.old result out.new }
+    ensures { CellGives b planes.now x y size out.old (answer_of result) out.new }
 {
-    let answer = cell_answer(b, x, y, size, out.len());
-    if answer == 0 {
-        copy_cell(b, planes, x, y, size, out);
-    }
-    answer
+    check_cell(b, x, y, size, out.len())?;
+    copy_cell(b, planes, x, y, size, out);
+    Ok(())
 }
 
 // A cell of any record and planes: the cell at the start of `out`, or a refusal and nothing written.
+#[tactic(auto, unfolding(crate::specs::Sample::sample_answer), using(board::proofs::Planes::planes_fit))]
 pub fn extra_save_cell(
     b: Board,
     planes: &[f32],
@@ -254,12 +178,9 @@ pub fn extra_save_cell(
     y: usize,
     size: usize,
     out: &mut [f32],
-) -> u32
-    ensures { SampleGives b planes.now x y size out.old result out.new }
+) -> Result<(), Refusal>
+    ensures { SampleGives b planes.now x y size out.old (answer_of result) out.new }
 {
-    let refusal = board::planes_answer(Board::LEAST_PLANE_SIDE, b.height, b.width, planes, false);
-    if refusal != 0 {
-        return refusal;
-    }
+    board::check_planes(Board::LEAST_PLANE_SIDE, b.height, b.width, planes, false)?;
     cell_of(b, planes, x, y, size, out)
 }
