@@ -6,13 +6,12 @@ use mathlib.Core.List.{List}
 use native.Mathlib.Omega.{arith}
 use borrow.Author.Tests.{eq-eqb, ne_eqb, eqb-true, le-leb, lt-leb, lt-ltb, le-ltb, ltb-false}
 use lib.Dec.{ltb, eqb}
+use lib.Ieee.{Float}
 use lib.ListN.{length, drop}
 use Rattle.lines.specs.Lines.{largest, lines_of, wide_gaps, estimate}
 use Rattle.lines.specs.Inner.{InLimits}
 use Rattle.reading.specs.declared.Reading.{Reading}
-use Rattle.reading.specs.declared.Reading.TheVariants as Of
-use Rattle.reading.specs.declared.Quarters.{Quarters}
-use Rattle.reading.specs.declared.Quarters.TheVariants as In
+use Rattle.std.specs.Prelude.{Result, Ok, Err}
 use Rattle.reading.specs.Reading.{remaining, accepted, gap_answer, quarters_of, pitched, line_answer, reading_of, line_of, answer_of, LineGives}
 
 -- ---- what the lines call for
@@ -29,18 +28,18 @@ module _ (lines : List ℕ) where
 
 -- a list that is fit
 module _ (s : List ℕ) where
-  pub refused : {n : ℕ} → n ≡ gap_answer (lines_of s) → 0 < n → In.Refused n ≡ quarters_of s
+  pub refused : {n : ℕ} → n ≡ gap_answer (lines_of s) → 0 < n → ◌≡◌ {A = Result (Reading ℕ) ℕ} (Err n) (quarters_of s)
   unfolding quarters_of
   refused {n} e h = rw (← e, ne_eqb n 0 (λ z. omega arith))
 
-  pub read_on : gap_answer (lines_of s) ≡ 0 → accepted (estimate (lines_of s)) (remaining s) ≡ quarters_of s
+  pub read_on : gap_answer (lines_of s) ≡ 0 → Ok (accepted (estimate (lines_of s)) (remaining s)) ≡ quarters_of s
   unfolding quarters_of
   read_on e = rw e
 
 -- the number of what a list reads as
-abbrev pub answer_in : Quarters → ℕ
-answer_in (In.Read q offset count votes) = 0
-answer_in (In.Refused n) = n
+abbrev pub answer_in : Result (Reading ℕ) ℕ → ℕ
+answer_in (Ok r) = 0
+answer_in (Err n) = n
 
 pub quarters_answer : (s : List ℕ) → answer_in (quarters_of s) ≡ gap_answer (lines_of s)
 unfolding quarters_of
@@ -87,7 +86,7 @@ module _ (s : List ℕ) (room : ℕ) where
         ltb-false room (4 * length s) r,
       )
 
-  pub declined : {n : ℕ} → n ≡ line_answer s room → (n ≡ 0 → ⊥) → Of.Refused n ≡ reading_of s room
+  pub declined : {n : ℕ} → n ≡ line_answer s room → (n ≡ 0 → ⊥) → ◌≡◌ {A = Result (Reading Float) ℕ} (Err n) (reading_of s room)
   unfolding reading_of
   declined {n} e h = rw (← e, ne_eqb n 0 h)
 
@@ -107,7 +106,7 @@ module _ (s : List ℕ) (room : ℕ) where
       go false p b q = rw p
 
 -- a reading as number and values
-pub line_gives : (s before : List ℕ) {r : Reading} {after : List ℕ} → r ≡ reading_of s (length before)
+pub line_gives : (s before : List ℕ) {r : Result (Reading Float) ℕ} {after : List ℕ} → r ≡ reading_of s (length before)
     → drop (4 * length s) after ≡ drop (4 * length s) before → LineGives s before (line_of r) after
 line_gives s before e k =
-    record { answer_is = ap (λ (r : Reading). (line_of r).answer) e ∙ reading_answer s (length before); line_is = ap line_of e; kept = k }
+    record { answer_is = ap (λ (r : Result (Reading Float) ℕ). (line_of r).answer) e ∙ reading_answer s (length before); line_is = ap line_of e; kept = k }

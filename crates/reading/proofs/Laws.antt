@@ -16,10 +16,10 @@ use Rattle.lines.proofs.Laws.{kept}
 use Rattle.lines.proofs.Rising.{Rising, rising_at, rising_length}
 use Rattle.votes.specs.Votes.{Wins, winner}
 use Rattle.votes.proofs.Laws.{winner_wins}
-use Rattle.reading.specs.declared.Quarters.{Quarters}
-use Rattle.reading.specs.declared.Quarters.TheVariants as In
+use Rattle.std.specs.Prelude.{Result, Ok, Err}
+use Rattle.reading.specs.declared.Gap.{Gap}
+use Rattle.reading.specs.declared.Reading.{Reading}
 use Rattle.reading.specs.declared.Remaining.{Remaining}
-use Rattle.reading.specs.declared.Remaining.TheVariants as Found
 use Rattle.reading.specs.Reading.{remaining, accepted, gap_answer, quarters_of}
 use Rattle.reading.specs.Inner.{Readable, Standing, RemainingGives, Pitched}
 use Rattle.reading.proofs.Answers.{gap_fits, read_on}
@@ -82,29 +82,21 @@ standing s {array = array} {from = from} {end = end} {e = e} f h r g some near =
     }
 
 -- what is read of them
-pub standing_read : {s array : List ℕ} {from end e : ℕ} {q : Quarters} → Standing s array from end e
-    → q ≡ accepted e (take (end - from) (drop from array)) → q ≡ quarters_of s
-standing_read {s} h is = is ∙ rw (h.lines, h.gap) (read_on s h.answer)
-
--- what is handed back, case by case
-module _ (s array : List ℕ) {r : Remaining} (h : RemainingGives s r array) where
-  pub handed_lines : {from end e : ℕ} → r ≡ Found.Lines from end e → Standing s array from end e
-  handed_lines is = rw is at h
-
-  pub handed_refusal : {n : ℕ} → r ≡ Found.Refused n → (n ≡ gap_answer (lines_of s)) × (0 < n)
-  handed_refusal is = rw is at h
+pub standing_read : {s array : List ℕ} {from end e : ℕ} {q : Reading ℕ} → Standing s array from end e
+    → q ≡ accepted e (take (end - from) (drop from array)) → Ok q ≡ quarters_of s
+standing_read {s} h is = rw is (rw (h.lines, h.gap) (read_on s h.answer))
 
 -- ---- what a reading is known to be
 
 -- what holds of both refusals, and of what is read where the lines are readable, holds of the reading
-pub by_outcome : (P : Quarters → Type 0) (s : List ℕ) → InLimits s → P (In.Refused 6) → P (In.Refused 7)
-    → (Readable (estimate (lines_of s)) (remaining s) (4 * length s) → P (accepted (estimate (lines_of s)) (remaining s)))
+pub by_outcome : (P : Result (Reading ℕ) ℕ → Type 0) (s : List ℕ) → InLimits s → P (Err 6) → P (Err 7)
+    → (Readable (estimate (lines_of s)) (remaining s) (4 * length s) → P (Ok (accepted (estimate (lines_of s)) (remaining s))))
     → P (quarters_of s)
 unfolding quarters_of
 by_outcome P s f no_gap too_wide read = gapped (eqb (length (wide_gaps (lines_of s))) 0) refl (leb 206 (estimate (lines_of s))) refl
   where
     gapped : (t : Bool) → eqb (length (wide_gaps (lines_of s))) 0 ≡ t → (u : Bool) → leb 206 (estimate (lines_of s)) ≡ u
-        → let n : ℕ = cond t 6 (cond u 7 0) in P (cond (eqb n 0) (accepted (estimate (lines_of s)) (remaining s)) (In.Refused n))
+        → let n : ℕ = cond t 6 (cond u 7 0) in P (cond (eqb n 0) (Ok (accepted (estimate (lines_of s)) (remaining s))) (Err n))
     gapped true g u h = no_gap
     gapped false g true h = too_wide
     gapped false g false h =
@@ -112,16 +104,16 @@ by_outcome P s f no_gap too_wide read = gapped (eqb (length (wide_gaps (lines_of
         read (readable s (4 * length s) f (omega arith) some (leb-false 206 (estimate (lines_of s)) h))
 
 -- an accepted reading is the winner of the lines that remain
-abbrev pub Won : List ℕ → Quarters → Type 0
-Won s (In.Read q offset count votes) = Wins (remaining s) (estimate (lines_of s)) (record { votes = votes; offset = offset; quarter = q })
-Won s (In.Refused n) = Unit
+abbrev pub Won : List ℕ → Result (Reading ℕ) ℕ → Type 0
+Won s (Ok r) = Wins (remaining s) (estimate (lines_of s)) (record { votes = r.votes; offset = r.offset; quarter = r.pitch })
+Won s (Err n) = Unit
 
 pub won : (s : List ℕ) → InLimits s → Won s (quarters_of s)
 won s f = by_outcome (Won s) s f tt tt readable_wins
 
-won_pitched : (s : List ℕ) (q : Quarters) → Won s q → Pitched q
-won_pitched s (In.Read q offset count votes) w = omega (arith, w.in_range.below)
-won_pitched s (In.Refused n) w = tt
+won_pitched : (s : List ℕ) (q : Result (Reading ℕ) ℕ) → Won s q → Pitched q
+won_pitched s (Ok r) w = omega (arith, w.in_range.below)
+won_pitched s (Err n) w = tt
 
 pub quarters_pitched : (s : List ℕ) → InLimits s → Pitched (quarters_of s)
 quarters_pitched s f = won_pitched s (quarters_of s) (won s f)

@@ -1,11 +1,10 @@
 -- For the code alone: no contract of an entry point reaches these.
-use Rattle.std.specs.Prelude.{ℕ, ◌+◌, ◌-◌, ◌*◌, ◌≤◌, ◌<◌, ◌≡◌, List, length, get_or, take, drop}
-use Rattle.reading.specs.declared.Quarters.{Quarters}
-use Rattle.reading.specs.declared.Quarters.TheVariants as In
+use Rattle.std.specs.Prelude.{ℕ, ◌+◌, ◌-◌, ◌*◌, ◌≤◌, ◌<◌, ◌≡◌, List, length, get_or, take, drop, Result, Ok, Err}
+use Rattle.reading.specs.declared.Gap.{Gap}
+use Rattle.reading.specs.declared.Reading.{Reading}
 use Rattle.reading.specs.declared.Remaining.{Remaining}
-use Rattle.reading.specs.declared.Remaining.TheVariants as Found
 use Rattle.lines.specs.Lines.{lines_of, estimate}
-use Rattle.reading.specs.Reading.{remaining, gap_answer}
+use Rattle.reading.specs.Reading.{remaining, gap_answer, gap_number}
 
 -- what the search asks of e, of the lines that remain, and of the row
 pub record Readable (e : ℕ) (lines : List ℕ) (room : ℕ) : Type 0 where
@@ -28,11 +27,11 @@ pub record Standing (s array : List ℕ) (from end e : ℕ) : Type 0 where
   pub readable : Readable e (remaining s) (4 * length s)
 
 -- what `remaining_of` hands back: a refusal exactly where the lines call for one
-abbrev pub RemainingGives : List ℕ → Remaining → List ℕ → Type 0
-RemainingGives s (Found.Lines from end e) array = Standing s array from end e
-RemainingGives s (Found.Refused n) array = (n ≡ gap_answer (lines_of s)) × (0 < n)
+abbrev pub RemainingGives : List ℕ → Result Remaining Gap → List ℕ → Type 0
+RemainingGives s (Ok k) array = Standing s array k.from k.end k.e
+RemainingGives s (Err g) array = gap_number g ≡ gap_answer (lines_of s)
 
--- a pitch of at most 200, which `pitched_of` asks for
-abbrev pub Pitched : Quarters → Type 0
-Pitched (In.Read q offset count votes) = q ≤ 800
-Pitched (In.Refused n) = Unit
+-- a pitch of at most 200
+abbrev pub Pitched : Result (Reading ℕ) ℕ → Type 0
+Pitched (Ok r) = r.pitch ≤ 800
+Pitched (Err n) = Unit

@@ -4,20 +4,39 @@
 #![tactic(auto)]
 
 ghost use Rattle.std.specs.Prelude.{◌≡◌, ℕ, ◌+◌, ◌-◌, ◌*◌, ◌≤◌, ◌<◌, length, get_or};
+ghost use Rattle.refusal.specs.Refusal.{number, answer_of, numbered};
 ghost use Rattle.lines.specs.Inner.{InLimits};
-ghost use Rattle.reading.specs.Reading.{pitch_of, count_of, accepted, quarters_of, pitched, line_answer, reading_of, line_of, LineGives};
-ghost use Rattle.reading.specs.Inner.{Readable, RemainingGives, Pitched};
+ghost use Rattle.reading.specs.Reading.{gap_number, pitch_of, count_of, accepted, quarters_of, line_answer, reading_of, line_of, LineGives};
+ghost use Rattle.reading.specs.Inner.{Readable, RemainingGives};
 
-// A pitch with an offset, a count and the votes, or a refusal.
+use refusal::Refusal;
+
+// What a list reads as: a pitch, in quarters or as a number, with an offset, a count and the votes.
 #[derive(Clone, Copy)]
-pub enum Reading {
-    Read {
-        pitch: f32,
-        offset: usize,
-        count: usize,
-        votes: usize,
-    },
-    Refused(u32),
+pub struct Reading<P> {
+    pub pitch: P,
+    pub offset: usize,
+    pub count: usize,
+    pub votes: usize,
+}
+
+// Why lines are not read: no two neighbours are more than 5 apart, or the estimate of their gap is too large.
+#[derive(Clone, Copy, Debug, PartialEq, Eq)]
+pub enum Gap {
+    Missing,
+    Wide,
+}
+
+// A line by itself has the numbers of the columns.
+impl From<Gap> for Refusal {
+    ghost from_gives = { λ gap refusal. number refusal ≡ gap_number gap };
+
+    fn from(gap: Gap) -> Refusal {
+        match gap {
+            Gap::Missing => Refusal::ColumnsNoGap,
+            Gap::Wide => Refusal::ColumnsTooFar,
+        }
+    }
 }
 
 // A reading as number and values, as C has it: zeros unless the answer is 0.
@@ -31,23 +50,35 @@ pub struct Line {
     pub votes: usize,
 }
 
-// The reading with the pitch in quarters.
-#[derive(Clone, Copy)]
-pub enum Quarters {
-    Read {
-        quarter: usize,
-        offset: usize,
-        count: usize,
-        votes: usize,
-    },
-    Refused(u32),
+impl From<Result<Reading<f32>, Refusal>> for Line {
+    ghost from_gives = { λ outcome line. line ≡ line_of (numbered number outcome) };
+
+    fn from(outcome: Result<Reading<f32>, Refusal>) -> Line {
+        match outcome {
+            Ok(reading) => Line {
+                answer: 0,
+                pitch: reading.pitch,
+                offset: reading.offset,
+                count: reading.count,
+                votes: reading.votes,
+            },
+            Err(refusal) => Line {
+                answer: u32::from(refusal),
+                pitch: 0.0,
+                offset: 0,
+                count: 0,
+                votes: 0,
+            },
+        }
+    }
 }
 
-// What is searched: the lines that remain, as a part of the array that was lent for them, and e. Or a refusal.
+// What is searched: the lines that remain, as a part of the array that was lent for them, and e.
 #[derive(Clone, Copy)]
-pub enum Remaining {
-    Lines { from: usize, end: usize, e: u32 },
-    Refused(u32),
+struct Remaining {
+    from: usize,
+    end: usize,
+    e: u32,
 }
 
 // The limits of a list: its length, and its entries.
@@ -77,35 +108,35 @@ fn count_of(lines: &[u32], quarter: usize) -> usize
 }
 
 // The lines that remain of s, in the array that is lent for them. The scratch serves the smoothed list, then the gaps.
-fn remaining_of(s: &[u32], scratch: &mut [u32], array: &mut [u32]) -> Remaining
+fn remaining_of(s: &[u32], scratch: &mut [u32], array: &mut [u32]) -> Result<Remaining, Gap>
     requires { InLimits s.now × (length s.now ≤ length scratch.old) × (length s.now ≤ length array.old) }
     ensures { RemainingGives s.now result array.new }
 {
     let n = lines::find_lines(s, scratch, array);
     let m = lines::wide_gaps(&array[0..n], scratch);
     if m == 0 {
-        return Remaining::Refused(6);
+        return Err(Gap::Missing);
     }
     let e = lines::chosen_gap(&scratch[0..m]);
     if e >= WIDE {
-        return Remaining::Refused(7);
+        return Err(Gap::Wide);
     }
     let kept = lines::kept_range(&array[0..n], e);
-    Remaining::Lines {
+    Ok(Remaining {
         from: kept.from,
         end: kept.end,
         e,
-    }
+    })
 }
 
 // The reading of the lines that remain. The row is scratch.
-fn read_lines(lines: &[u32], e: u32, row: &mut [u32]) -> Quarters
+fn read_lines(lines: &[u32], e: u32, row: &mut [u32]) -> Reading<usize>
     requires { Readable e lines.now (length row.old) }
     ensures { result ≡ accepted e lines.now }
 {
     let w = votes::winner_of(lines, e, row);
-    Quarters::Read {
-        quarter: w.quarter,
+    Reading {
+        pitch: w.quarter,
         offset: w.offset,
         count: count_of(lines, w.quarter),
         votes: w.votes,
@@ -113,68 +144,47 @@ fn read_lines(lines: &[u32], e: u32, row: &mut [u32]) -> Quarters
 }
 
 // The lines are kept in an array of their own; the scratch then serves the row of votes.
-pub fn quarters_of(s: &[u32], scratch: &mut [u32]) -> Quarters
+pub fn quarters_of(s: &[u32], scratch: &mut [u32]) -> Result<Reading<usize>, Gap>
     requires { InLimits s.now × (4 * length s.now ≤ length scratch.old) }
-    ensures { result ≡ quarters_of s.now }
+    ensures { numbered gap_number result ≡ quarters_of s.now }
 {
     let mut array = [0u32; LONGEST];
-    match remaining_of(s, scratch, &mut array) {
-        Remaining::Lines { from, end, e } => read_lines(&array[from..end], e, scratch),
-        Remaining::Refused(n) => Quarters::Refused(n),
-    }
+    let kept = remaining_of(s, scratch, &mut array)?;
+    Ok(read_lines(&array[kept.from..kept.end], kept.e, scratch))
 }
 
-fn pitched_of(q: Quarters) -> Reading
-    requires { Pitched q }
-    ensures { result ≡ pitched q }
-{
-    match q {
-        Quarters::Read {
-            quarter,
-            offset,
-            count,
-            votes,
-        } => Reading::Read {
-            pitch: pitch_of(quarter),
-            offset,
-            count,
-            votes,
-        },
-        Quarters::Refused(n) => Reading::Refused(n),
-    }
-}
-
-// The refusals that come before the lines, or 0. `scratch` is the number of its entries.
-fn line_answer(list: &[u32], scratch: usize) -> u32
-    ensures { result ≡ line_answer list.now scratch }
+// The refusals that come before the lines. `scratch` is the number of its entries.
+#[tactic(auto, using(crate::proofs::Answers::line_fit))]
+fn check(list: &[u32], scratch: usize) -> Result<(), Refusal>
+    ensures { answer_of result ≡ line_answer list.now scratch }
 {
     let n = list.len();
-    if n < SHORTEST {
-        return 1;
-    }
-    if LONGEST < n {
-        return 1;
+    if n < SHORTEST || LONGEST < n {
+        return Err(Refusal::BadSide);
     }
     let room = 4 * n;
     if scratch < room {
-        return 3;
+        return Err(Refusal::ShortSlice);
     }
     if HIGHEST < lines::largest_of(list) {
-        return 11;
+        return Err(Refusal::BadNumber);
     }
-    0
+    Ok(())
 }
 
 // The reading, and the number and values that it stands for. The scratch that is lent beyond 4·L entries is kept.
-pub fn get_line(list: &[u32], scratch: &mut [u32]) -> Reading
-    ensures reads { result ≡ reading_of list.now (length scratch.old) }
-    ensures gives { LineGives list.now scratch.old (line_of result) scratch.new }
+pub fn get_line(list: &[u32], scratch: &mut [u32]) -> Result<Reading<f32>, Refusal>
+    ensures reads { numbered number result ≡ reading_of list.now (length scratch.old) }
+    ensures gives { LineGives list.now scratch.old (line_of (numbered number result)) scratch.new }
 {
     let len = scratch.len();
-    let answer = line_answer(list, len);
-    if answer != 0 {
-        return Reading::Refused(answer);
-    }
+    check(list, len)?;
     let room = 4 * list.len();
-    pitched_of(quarters_of(list, &mut scratch[..room]))
+    let read = quarters_of(list, &mut scratch[..room])?;
+    Ok(Reading {
+        pitch: pitch_of(read.pitch),
+        offset: read.offset,
+        count: read.count,
+        votes: read.votes,
+    })
 }

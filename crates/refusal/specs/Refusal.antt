@@ -24,3 +24,8 @@ number The.TooWide = 15
 abbrev pub answer_of : {A : Type 0} → Result A Refusal → ℕ
 answer_of (Ok _) = 0
 answer_of (Err r) = number r
+
+-- a result with the number of its error
+abbrev pub numbered : {A E : Type 0} → (E → ℕ) → Result A E → Result A ℕ
+numbered number_of (Ok x) = Ok x
+numbered number_of (Err e) = Err (number_of e)
