@@ -1,5 +1,5 @@
 -- For the code alone: a picture in the edge bytes, or in the bytes that gradients stand for, seen along one way. No contract of an entry
--- point reaches these, but for `marks_by`.
+-- point reaches these.
 use Rattle.std.specs.Prelude.{ℕ, ◌+◌, ◌*◌, ◌/◌, ◌^◌, ◌≤◌, ◌<◌, Bool, cond, ltb, List, Option, Some, None, Float, length}
 use Rattle.lists.specs.Picture.{points}
 use Rattle.edges.specs.Edges.{marks}
