@@ -1,42 +1,22 @@
 -- The widening's definitions unfolded one turn, as its loops take them. Assumes nothing.
 use Prim.Native.Nat.{ℕ, zero, suc, ◌+◌, ◌-◌, ◌<◌, ◌≤◌}
-use mathlib.Core.Path.{◌≡◌, refl}
+use mathlib.Core.Path.{◌≡◌}
 use mathlib.Core.Bool.{Bool, true, false, cond}
 use native.Mathlib.Numerals.{add-one}
 use native.Mathlib.Omega.{arith}
 use lib.Dec.{leb}
-use mir.Val.{bool_byte}
-use Rattle.lists.specs.Picture.{bit}
-use Rattle.lists.proofs.Picture.{bit_le}
-use Rattle.bounds.specs.declared.Beside.{Beside}
-use Rattle.bounds.specs.Widen.{total, lowered, second, pair}
-use Rattle.bounds.proofs.Scans.{left_more, left_none}
-
--- a point's byte is its bit
-pub byte_bit : (b : Bool) → bool_byte b ≡ bit b
-byte_bit true = refl
-byte_bit false = refl
-
-pub pair_le : (b : Beside) (at : ℕ → ℕ → Bool) (m p : ℕ) → pair b at m p ≤ 2
-pair_le b at m p = omega (arith, bit_le (at p m), bit_le (second b at p m))
+use Rattle.bounds.specs.Widen.{total, lowered}
+use Rattle.bounds.proofs.Scans.{left_more}
 
 module _ (f : ℕ → ℕ) where
   pub total_more : (p hi : ℕ) → p < hi → total f p (hi - p) ≡ f p + total f (p + 1) (hi - (p + 1))
   total_more p hi h = rw (left_more h, add-one p)
-
-  pub total_none : (p hi : ℕ) → hi ≤ p → total f p (hi - p) ≡ 0
-  total_none p hi h = rw (left_none h)
 
 module _ (sum : ℕ → ℕ) where
   pub lowered_more : (m : ℕ) → 1 < m → lowered sum m ≡ cond (leb (sum m) 2) m (lowered sum (m - 1))
   lowered_more zero h = absurd (omega arith)
   lowered_more (suc zero) h = absurd (omega arith)
   lowered_more (suc (suc m)) h = let e : suc (suc m) - 1 ≡ suc m = omega arith in rw e
-
-  pub lowered_none : (m : ℕ) → m ≤ 1 → lowered sum m ≡ m
-  lowered_none zero h = refl
-  lowered_none (suc zero) h = refl
-  lowered_none (suc (suc m)) h = absurd (omega arith)
 
   pub lowered_le : (m : ℕ) → lowered sum m ≤ m
   lowered_le zero = omega arith
