@@ -16,7 +16,7 @@ use Rattle.rank.proofs.Entry.{at_least, at_most}
 use Rattle.rank.proofs.Members.{entry_has}
 use Rattle.edges.specs.Edges.{sample, clip, rank_of, threshold}
 use Rattle.edges.specs.Inner.{sought, Cut}
-use Rattle.edges.specs.declared.Range.{Range}
+use Rattle.edges.specs.declared.range.Range.{Range}
 use Rattle.edges.proofs.Sample.{AllAre}
 
 -- the bits of the threshold where the entry has the bits b
