@@ -1,9 +1,9 @@
 -- The sample and its parts: where their rows lie, how many values they have, that they are plain, that the rank is one of the sample's
 -- places, and counting by the bits, value by value and row by row. Assumes nothing.
-use Rattle.std.proofs.Common.{◌≡◌, ℕ, ◌+◌, ◌*◌, ◌/◌, ◌%◌, ◌^◌, ◌≤◌, ◌<◌, Bool, true, false, cond, T, leb, List, [], ◌∷◌, length, get_or, take, drop, sym, refl, ap, ◌∙◌, arith, length-drop}
+use Rattle.std.proofs.Common.{◌≡◌, ℕ, suc, ◌+◌, ◌*◌, ◌/◌, ◌%◌, ◌^◌, ◌≤◌, ◌<◌, Bool, true, false, cond, T, leb, List, [], ◌∷◌, length, get_or, take, drop, sum, map, sym, refl, ap, ◌∙◌, arith, length-drop}
 use Rattle.std.proofs.Math.Nat.{add-mul, zero-mul, one-mul, mul_comm, mul-le-mul, mul-le-mul_right, mul-pos, div-mul-le_self, mod-lt}
 use Rattle.std.proofs.Math.Seq.{get_or-drop}
-use Rattle.std.proofs.lemmas.List.{take_more}
+use Rattle.std.proofs.lemmas.List.Sums.{sum_by-cons}
 use Rattle.std.specs.Int.{from_bool}
 use mathlib.Core.Path.{fun_ext}
 use lib.Ieee.{Float, nan, binary32, le, fits, to_bits, of_bits}
@@ -122,22 +122,19 @@ pub bit_of : (b : Bool) → from_bool b ≡ bit b
 bit_of true = refl
 bit_of false = refl
 
-bit_few : (b : Bool) → from_bool b ≤ 1
-bit_few true = omega arith
-bit_few false = omega arith
+-- 1 for a value that is at most the one with these bits
+abbrev pub below : ℕ → Float → ℕ
+below b x = from_bool (le x (of_bits binary32 b))
 
--- one value more
-pub count_more : {b n : ℕ} (l : List Float) (k : ℕ) → k < length l → b ≤ 0x7F800000 → Plain (get_or l k nan)
-    → n ≡ from_bool (le (get_or l k nan) (of_bits binary32 b))
-    → (count_at_most (to_bits binary32) b (take (k + 1) l) ≡ count_at_most (to_bits binary32) b (take k l) + n) × (n ≤ 1)
-count_more {b} l k h i p e =
-    let x = get_or l k nan in
-    let one : from_bool (le x (of_bits binary32 b)) ≡ cond (leb (to_bits binary32 x) b) 1 0 =
-    bit_of (le x (of_bits binary32 b)) ∙ ap bit (at_most_bits b p i) in
-    (
-      rw (take_more l k nan h) (omega (arith, e, one, count_append (at_most (to_bits binary32) b) (take k l) (x ∷ []))),
-      omega (arith, e, bit_few (le x (of_bits binary32 b))),
-    )
+-- a sum of these counts
+pub count_sum : {b : ℕ} (l : List Float) → b ≤ 0x7F800000 → AllAre Plain l
+    → sum (map (below b) l) ≡ count_at_most (to_bits binary32) b l
+count_sum [] i p = refl
+count_sum {b} (x ∷ l) i p =
+    let one : below b x ≡ cond (leb (to_bits binary32 x) b) 1 0 =
+    bit_of (le x (of_bits binary32 b)) ∙ ap bit (at_most_bits b (p 0 (omega arith)) i) in
+    let rest = count_sum l i (λ k h. p (suc k) (omega arith)) in
+    sum_by-cons (λ n. n) (below b x) (map (below b) l) ∙ omega (arith, one, rest)
 
 -- one row more
 pub count_row : (b : ℕ) (f : ℕ → ℕ → Float) (columns i : ℕ)

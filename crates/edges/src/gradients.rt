@@ -54,11 +54,7 @@ fn count_row(row: &[f32], bits: u32) -> u32
     ensures few { result ≤ length row.now }
 {
     let most = f32::from_bits(bits);
-    let mut count: u32 = 0;
-    for x in row {
-        count += u32::from(*x <= most);
-    }
-    count
+    row.iter().map(|x| u32::from(*x <= most)).sum()
 }
 
 impl<'a> Gradients<'a> {
