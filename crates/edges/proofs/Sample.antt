@@ -1,5 +1,5 @@
 -- The sample and its parts: where their rows lie, how many values they have, that they are plain, that the rank is one of the sample's
--- places, and counting by the bits, value by value and row by row. Assumes nothing.
+-- places, and counting by the bits, a row by itself and row after row. Assumes nothing.
 use Rattle.std.proofs.Common.{◌≡◌, ℕ, suc, ◌+◌, ◌*◌, ◌/◌, ◌%◌, ◌^◌, ◌≤◌, ◌<◌, Bool, true, false, cond, T, leb, List, [], ◌∷◌, length, get_or, take, drop, sum, map, sym, refl, ap, ◌∙◌, arith, length-drop}
 use Rattle.std.proofs.Math.Nat.{add-mul, zero-mul, one-mul, mul_comm, mul-le-mul, mul-le-mul_right, mul-pos, div-mul-le_self, mod-lt}
 use Rattle.std.proofs.Math.Seq.{get_or-drop}
@@ -18,7 +18,7 @@ use Rattle.binary32.proofs.Plain.{Plain, bits_plain, at_most_bits}
 use Rattle.binary32.proofs.Share.{share_below}
 use Rattle.rank.specs.Inner.{at_most, count_at_most}
 use Rattle.edges.specs.Edges.{middle, sample, rank_of}
-use Rattle.edges.specs.Inner.{AllPlain, taken, start, part}
+use Rattle.edges.specs.Inner.{AllHeld, AllPlain, taken, start, part}
 
 -- every value of l is such
 abbrev pub AllAre : (Float → Type 0) → List Float → Type 0
@@ -33,7 +33,7 @@ abbrev pub at_place : (ℕ → ℕ → Float) → ℕ → ℕ → Float
 at_place f columns k = f (k / columns) (k % columns)
 
 -- place k, past a whole number of steps of s and within the next, lies in the middle half
-pub within : (s side i k : ℕ) → 1 ≤ s → i < taken s side → s * i + k % s < middle side
+within : (s side i k : ℕ) → 1 ≤ s → i < taken s side → s * i + k % s < middle side
 within s side i k z h =
     let m = middle side in
     let q : (i + 1) * s ≤ taken s side * s = mul-le-mul_right s (omega arith) in
@@ -68,8 +68,8 @@ pub length_part : (s p row column : ℕ) (g : List Float) → length (part s p r
 length_part s p row column g = length_tab_from 0 (taken s row * taken p column) _
 
 -- every value of a part is one of the gradients
-pub part_plain : (s p row column : ℕ) (g : List Float) → 1 ≤ s → 1 ≤ p → length g ≡ row * column
-    → ((k : ℕ) → T (fits binary32 (get_or g k nan))) → AllPlain g → AllAre Plain (part s p row column g)
+pub part_plain : (s p row column : ℕ) (g : List Float) → 1 ≤ s → 1 ≤ p → length g ≡ row * column → AllHeld g → AllPlain g
+    → AllAre Plain (part s p row column g)
 part_plain s p row column g y o e f q k h =
     let rows = taken s row in
     let n = taken p column in
@@ -95,10 +95,6 @@ part_all row column g =
     let z : 3 * (k / n) % 1 ≡ 0 = omega arith in
     ap (λ (p : ℕ). get_or g p nan) (rw (y, z) (omega (arith, zero-mul n)))))
 
-pub sample_plain : (row column : ℕ) (g : List Float) → length g ≡ row * column → ((k : ℕ) → T (fits binary32 (get_or g k nan))) → AllPlain g
-    → AllAre Plain (sample row column g)
-sample_plain row column g e f q = rw (sym (part_all row column g)) (part_plain 1 1 row column g (omega arith) (omega arith) e f q)
-
 -- ---- the rank
 
 share : HasValue (of_bits binary32 0x3F0CCCCD) false 9227469 16777216
@@ -118,6 +114,7 @@ rank_in {m} row column g e r k h =
 
 -- ---- counting by the bits
 
+-- the number of a bool
 pub bit_of : (b : Bool) → from_bool b ≡ bit b
 bit_of true = refl
 bit_of false = refl

@@ -4,8 +4,7 @@ use Rattle.std.specs.Prelude.{ℕ, ◌+◌, ◌*◌, ◌/◌, ◌%◌, ◌≤◌
 use Rattle.std.specs.Float.{nan, binary32}
 use Rattle.std.specs.Float.Ieee.{fits, to_bits}
 use Rattle.lists.specs.Tab.{grid}
-use Rattle.rank.specs.Rank.{ranked}
-use Rattle.edges.specs.Edges.{middle, clip}
+use Rattle.edges.specs.Edges.{middle}
 use Rattle.edges.specs.declared.range.Range.{Range}
 
 -- every value has bits of at most infinity's: none is negative, -0.0 or NaN
@@ -35,10 +34,6 @@ start s p row column i = (row / 4 + (s * i + i * i / 7 % s)) * column + (column 
 -- a part of the sample: one row of each s, and of it one p-th of the columns. With 1 and 1 it is the sample.
 abbrev pub part : ℕ → ℕ → ℕ → ℕ → List Float → List Float
 part s p row column g = grid (taken s row) (taken p column) (λ i j. get_or g (start s p row column i + j) nan)
-
--- the bits of the clipped entry `rank`
-abbrev pub sought : List Float → ℕ → ℕ
-sought l rank = to_bits binary32 (clip (ranked l rank))
 
 -- up to mid where more than `rank` values are at most mid, else above it
 pub record Cut (r : Range) (mid rank count : ℕ) (s : Range) : Type 0 where

@@ -10,17 +10,17 @@ ghost use Rattle.edges.specs.Inner as Inner;
 
 // `row` rows of `column` gradients each.
 #[derive(Clone, Copy)]
-pub struct Gradients<'a> {
-    pub row: usize,
-    pub column: usize,
-    pub values: &'a [f32],
+pub(crate) struct Gradients<'a> {
+    pub(crate) row: usize,
+    pub(crate) column: usize,
+    pub(crate) values: &'a [f32],
     ghost fit: { GradientsFit row column values.now },
     ghost held: { AllHeld values.now },
 }
 
 // A part of the sample: one row in `every`, and of it one of `parts` parts.
 #[derive(Clone, Copy)]
-pub struct Part {
+pub(crate) struct Part {
     every: usize,
     parts: usize,
     ghost every_in: { 1 ≤ every },
@@ -29,10 +29,10 @@ pub struct Part {
 
 impl Part {
     // All of the sample.
-    pub const WHOLE: Part = Part { every: 1, parts: 1 };
+    pub(crate) const WHOLE: Part = Part { every: 1, parts: 1 };
 
     // What a guess counts over.
-    pub const GUESSED: Part = Part {
+    pub(crate) const GUESSED: Part = Part {
         every: 6,
         parts: 11,
     };
@@ -47,6 +47,7 @@ fn middle(side: usize) -> usize
 }
 
 // How many values of the row are at most the value with these bits. Plain values are ordered as their bits are.
+#[tactic(auto, using(binary32::proofs::Plain::bits_number))]
 fn count_row(row: &[f32], bits: u32) -> u32
     requires few { length row.now ≤ 2048 }
     requires plain { AllPlain row.now × (bits ≤ 0x7F800000) }
@@ -72,25 +73,26 @@ impl<'a> Gradients<'a> {
         middle(self.column) / part.parts
     }
 
-    #[tactic(auto, using(crate::proofs::Sample::length_part))]
     // How many values a part has.
-    pub fn size(&self, part: Part) -> usize
+    #[tactic(auto, using(crate::proofs::Sample::length_part))]
+    pub(crate) fn size(&self, part: Part) -> usize
         ensures { (result ≡ length (Inner.part part.every part.parts self.now.row self.now.column self.now.values.now)) × (result ≤ 2 ^ 22) }
     {
         self.rows(part) * self.columns(part)
     }
 
-    // Where row i of a part begins. The row lies among the gradients.
+    // Where row i of a part begins. It lies among the gradients.
     fn start(&self, part: Part, i: usize) -> usize
         requires { i < taken part.every self.now.row }
         ensures is { result ≡ start part.every part.parts self.now.row self.now.column i }
         ensures inside { result + taken part.parts self.now.column ≤ self.now.row * self.now.column }
     {
-        let (every, parts) = (part.every, part.parts);
+        let Part { every, parts } = part;
         let above = self.row / 4 + (every * i + i * i / 7 % every);
         above * self.column + (self.column / 4 + 3 * i % parts * self.columns(part))
     }
 
+    // Row i of a part.
     #[tactic(auto, using(crate::proofs::Sample::row_is))]
     fn row_of(&self, part: Part, i: usize) -> &'a [f32]
         requires { i < taken part.every self.now.row }
@@ -104,7 +106,8 @@ impl<'a> Gradients<'a> {
     }
 
     // How many values of a part are at most the value with these bits.
-    pub fn count_at_most(&self, part: Part, bits: u32) -> u32
+    #[tactic(auto, using(crate::proofs::Sample::count_row))]
+    pub(crate) fn count_at_most(&self, part: Part, bits: u32) -> u32
         requires { bits ≤ 0x7F800000 }
         ensures { result ≡ count_at_most (to_bits binary32) bits (Inner.part part.every part.parts self.now.row self.now.column self.now.values.now) }
     {

@@ -14,8 +14,8 @@ mod search;
 use gradients::{Gradients, Part};
 use search::threshold_bits;
 
-#[tactic(auto, unfolding(crate::specs::Edges::rank_of))]
 // The threshold's place among m sorted values.
+#[tactic(auto, unfolding(crate::specs::Edges::rank_of))]
 fn rank_of(m: usize) -> u64
     requires { m ≤ 2 ^ 22 }
     ensures { result ≡ rank_of m }
@@ -24,6 +24,7 @@ fn rank_of(m: usize) -> u64
 }
 
 // The threshold of gradients, `row` rows of `column` each.
+#[tactic(auto, using(binary32::proofs::Plain::bits_number))]
 pub fn threshold_of(row: usize, column: usize, g: &[f32]) -> f32
     requires sides_in { (2 ≤ row) × (2 ≤ column) }
     requires gradients_fit { GradientsFit row column g.now }

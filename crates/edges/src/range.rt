@@ -7,9 +7,9 @@ const LEAST_BITS: u32 = 0x3C23D70A;
 const MOST_BITS: u32 = 0x3F800000;
 
 #[derive(Clone, Copy)]
-pub struct Range {
-    pub lo: u32,
-    pub hi: u32,
+pub(crate) struct Range {
+    pub(crate) lo: u32,
+    pub(crate) hi: u32,
     ghost in_order: { lo ≤ hi },
     ghost plain: { hi ≤ 0x7F800000 },
 }
@@ -18,7 +18,7 @@ impl Range {
     ghost use Rattle.edges.specs.Inner.{Cut};
 
     // All bits that a threshold may have.
-    pub fn limits() -> Self
+    pub(crate) fn limits() -> Self
         ensures { (result.lo ≡ 0x3C23D70A) × (result.hi ≡ 0x3F800000) }
     {
         Range {
@@ -27,7 +27,7 @@ impl Range {
         }
     }
 
-    pub fn halfway(self) -> u32
+    pub(crate) fn halfway(self) -> u32
         requires { self.lo < self.hi }
         ensures { (self.lo ≤ result) × (result < self.hi) }
     {
@@ -35,7 +35,7 @@ impl Range {
     }
 
     // The side of the range, up to mid or above it, that holds the bits of entry `rank`, where `count` values are at most mid.
-    pub fn cut(self, mid: u32, rank: u64, count: u32) -> Self
+    pub(crate) fn cut(self, mid: u32, rank: u64, count: u32) -> Self
         requires { (self.lo ≤ mid) × (mid < self.hi) }
         ensures { Cut self mid rank count result }
     {
@@ -53,7 +53,7 @@ impl Range {
     }
 
     // `reach` from an end; in the middle once that is nearer.
-    pub fn near_end(self, reach: u32, from_lo: bool) -> u32
+    pub(crate) fn near_end(self, reach: u32, from_lo: bool) -> u32
         requires { self.lo < self.hi }
         ensures { (self.lo ≤ result) × (result < self.hi) }
     {

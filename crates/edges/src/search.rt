@@ -3,8 +3,10 @@
 // Where to count. `Seen` and `Counts` promise nothing, and no promise is owed: `Range::cut` keeps the entry sought in the range wherever
 // within it is counted, and `next_count` promises a place within it whatever was seen. A bad place costs time alone.
 ghost use Rattle.std.specs.Prelude.{◌≡◌, ◌≤◌, ◌<◌, length};
-ghost use Rattle.edges.specs.Edges.{sample};
-ghost use Rattle.edges.specs.Inner.{sought};
+ghost use Rattle.std.specs.Float.{binary32};
+ghost use Rattle.std.specs.Float.Ieee.{of_bits};
+ghost use Rattle.rank.specs.Rank.{ranked};
+ghost use Rattle.edges.specs.Edges.{sample, clip};
 
 use crate::gradients::{Gradients, Part};
 use crate::range::Range;
@@ -77,9 +79,14 @@ impl Seen {
     // What is seen after a count, of the side that `Range::cut` takes.
     fn next(self, rank: u32, counts: Counts) -> Self {
         let lower = rank < counts.of_all;
+        let (below, upto) = if lower {
+            (self.below, counts)
+        } else {
+            (counts, self.upto)
+        };
         Seen {
-            below: if lower { self.below } else { counts },
-            upto: if lower { counts } else { self.upto },
+            below,
+            upto,
             guesses: self.guesses.saturating_sub(1),
             reach: if self.guessing() {
                 self.reach
@@ -133,8 +140,8 @@ fn next_count(g: &Gradients, rank: u32, range: Range, seen: Seen) -> u32
 }
 
 // The bits of the clipped entry `rank` of the sample.
-pub fn threshold_bits(g: &Gradients, rank: u32) -> u32
-    ensures found { rank < length (sample g.now.row g.now.column g.now.values.now) → result ≡ sought (sample g.now.row g.now.column g.now.values.now) rank }
+pub(crate) fn threshold_bits(g: &Gradients, rank: u32) -> u32
+    ensures found { let l = sample g.now.row g.now.column g.now.values.now in rank < length l → of_bits binary32 result ≡ clip (ranked l rank) }
     ensures ceiling { result ≤ 0x3F800000 }
 {
     let mut seen = Seen::first(g);

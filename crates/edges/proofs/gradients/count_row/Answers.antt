@@ -7,9 +7,6 @@ use Rattle.binary32.proofs.Plain.{bits_number, bits_plain}
 use Rattle.edges.proofs.Sample.{below, count_sum}
 use Rattle.edges.proofs.gradients.count_row.Goals as goal
 
-pub float_from_bits-most : goal.float_from_bits-most
-float_from_bits-most c = rw (bits_number c.args.bits (omega arith)) tt
-
 pub returns-clause-is : goal.returns-clause-is
 returns-clause-is c =
     let s : c.sum.result ≡ sum (map (below c.args.bits) c.args.row.now) = search rules in

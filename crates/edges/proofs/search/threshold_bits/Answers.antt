@@ -1,9 +1,9 @@
-use Rattle.std.proofs.Common.{◌≡◌, ◌<◌, length, refl, arith}
+use Rattle.std.proofs.Common.{arith}
 use Rattle.binary32.proofs.Plain.{Plain}
-use Rattle.edges.specs.Inner.{part, sought}
+use Rattle.edges.specs.Inner.{part}
 use Rattle.edges.specs.declared.gradients.Gradients.{Gradients}
 use Rattle.edges.proofs.Sample.{AllAre, part_plain, part_all}
-use Rattle.edges.proofs.Threshold.{Encloses, encloses_all, encloses_cut, cut_inside}
+use Rattle.edges.proofs.Threshold.{encloses_all, encloses_cut, encloses_one}
 use Rattle.edges.proofs.search.threshold_bits.Goals as goal
 
 -- the values of the sample are plain
@@ -13,9 +13,6 @@ plain g = part_plain 1 1 g.row g.column g.values.now (omega arith) (omega arith)
 pub loop-range-init : goal.loop-range-init
 loop-range-init c = encloses_all _ _ _ (plain c.args.g.now) c.limits-range.ensures.0 c.limits-range.ensures.1
 
-pub loop-range-smaller : goal.loop-range-smaller
-loop-range-smaller c = (cut_inside c.next_count-mid.ensures.0 c.next_count-mid.ensures.1 c.cut-range.ensures).3
-
 pub loop-range-preserved : goal.loop-range-preserved
 loop-range-preserved c =
     let m = c.next_count-mid.ensures in
@@ -24,7 +21,4 @@ loop-range-preserved c =
 pub returns-clause-found : goal.returns-clause-found
 returns-clause-found c =
     let g = c.args.g.now in
-    let i = c.loop-range.invariant in
-    let l = part 1 1 g.row g.column g.values.now in
-    let found : c.args.rank < length l → c.loop-range.range.lo ≡ sought l c.args.rank = λ h. omega (arith, i.low h, i.high h, c.loop-range-test.false) in
-    rw (part_all g.row g.column g.values.now) at found
+    rw (← part_all g.row g.column g.values.now) (encloses_one (plain g) c.loop-range.invariant c.loop-range-test.false)
