@@ -1,16 +1,16 @@
 -- The sample and its parts: where their rows lie, how many values they have, that they are plain, that the rank is one of the sample's
 -- places, and counting by the bits, a row by itself and row after row. Assumes nothing.
-use Rattle.std.proofs.Common.{◌≡◌, ℕ, suc, ◌+◌, ◌*◌, ◌/◌, ◌%◌, ◌^◌, ◌≤◌, ◌<◌, Bool, true, false, cond, T, leb, List, [], ◌∷◌, length, get_or, take, drop, sum, map, sym, refl, ap, ◌∙◌, arith, length-drop}
-use Rattle.std.proofs.Math.Nat.{add-mul, zero-mul, one-mul, mul_comm, mul-le-mul, mul-le-mul_right, mul-pos, div-mul-le_self, mod-lt}
+use Rattle.std.proofs.Common.{◌≡◌, ℕ, suc, ◌+◌, ◌*◌, ◌/◌, ◌%◌, ◌^◌, ◌≤◌, ◌<◌, Bool, true, false, cond, leb, List, [], ◌∷◌, length, get_or, take, drop, sum, map, sym, refl, ap, ◌∙◌, arith, length-drop}
+use Rattle.std.proofs.Math.Nat.{add-mul, zero-mul, one-mul, mul_comm, mul-le-mul_right, mul-pos, div-mul-le_self, mod-lt}
 use Rattle.std.proofs.Math.Seq.{get_or-drop}
 use Rattle.std.proofs.lemmas.List.Sums.{sum_by-cons}
 use Rattle.std.specs.Int.{from_bool}
 use mathlib.Core.Path.{fun_ext}
-use lib.Ieee.{Float, nan, binary32, le, fits, to_bits, of_bits}
+use lib.Ieee.{Float, nan, binary32, le, to_bits, of_bits}
 use lib.Ieee.Exact.{HasValue}
 use Rattle.lists.specs.Tab.{tab, grid}
 use Rattle.lists.specs.Picture.{bit}
-use Rattle.lists.proofs.Count.{count_append, count_le}
+use Rattle.lists.proofs.Count.{count_append}
 use Rattle.lists.proofs.Tab.{length_tab_from, get_or_tab, tab_same}
 use Rattle.lists.proofs.Part.{tab_take}
 use Rattle.lists.proofs.Grid.{row_column, grid_more}

@@ -1,5 +1,5 @@
 -- The threshold by its bits: the clipped bits of the ranked entry, and cutting their range by counting. Assumes nothing.
-use Rattle.std.proofs.Common.{◌≡◌, ℕ, ◌≤◌, ◌<◌, max, min, Bool, true, false, cond, ltb, List, length, sym, refl, ap, ◌∙◌, arith, ltb-true, ltb-false}
+use Rattle.std.proofs.Common.{◌≡◌, ℕ, ◌+◌, ◌≤◌, ◌<◌, max, min, Bool, true, false, cond, ltb, List, length, sym, refl, ap, ◌∙◌, arith, ltb-true, ltb-false}
 use lib.Ieee.{Float, nan, binary32, to_bits, of_bits}
 use lib.Ieee.Bits.{of_bits-to_bits}
 use Rattle.binary32.proofs.Plain.{Plain, bits_back, above_bits, below_bits}
@@ -8,7 +8,6 @@ use Rattle.rank.specs.Inner.{count_at_most}
 use Rattle.rank.proofs.Entry.{at_least, at_most}
 use Rattle.rank.proofs.Members.{entry_has}
 use Rattle.edges.specs.Edges.{clip}
-use Rattle.edges.specs.Inner.{Cut}
 use Rattle.edges.specs.declared.range.Range.{Range}
 use Rattle.edges.proofs.Sample.{AllAre}
 
@@ -75,12 +74,14 @@ encloses_all l rank r p d e =
 
 -- the side that is taken holds the bits still
 pub encloses_cut : {l : List Float} {mid rank count : ℕ} {r s : Range} → AllAre Plain l → Encloses l rank r → r.lo ≤ mid → mid < r.hi
-    → count ≡ count_at_most (to_bits binary32) mid l → Cut r mid rank count s → Encloses l rank s
-encloses_cut {l} {mid} {rank} {count} {r} {s} p h from to e c = at (ltb rank count) refl
+    → count ≡ count_at_most (to_bits binary32) mid l → (rank < count → (s.lo ≡ r.lo) × (s.hi ≡ mid))
+    → (count ≤ rank → (s.lo ≡ mid + 1) × (s.hi ≡ r.hi))
+    → Encloses l rank s
+encloses_cut {l} {mid} {rank} {count} {r} {s} p h from to e lower upper = at (ltb rank count) refl
   where
     at : (b : Bool) → ltb rank count ≡ b → Encloses l rank s
     at true q =
-        let k = c.lower (ltb-true rank count q) in
+        let k = lower (ltb-true rank count q) in
         let found = at_least (to_bits binary32) nan mid l rank in
         record {
           floor = omega (arith, k, h.floor);
@@ -89,7 +90,7 @@ encloses_cut {l} {mid} {rank} {count} {r} {s} p h from to e c = at (ltb rank cou
           high = λ j. omega (arith, k, h.floor, sought_is l rank j p, found j (omega (arith, ltb-true rank count q)));
         }
     at false q =
-        let k = c.upper (ltb-false rank count q) in
+        let k = upper (ltb-false rank count q) in
         let above = at_most (to_bits binary32) nan mid l rank in
         record {
           floor = omega (arith, k, h.floor);

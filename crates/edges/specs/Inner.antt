@@ -5,7 +5,6 @@ use Rattle.std.specs.Float.{nan, binary32}
 use Rattle.std.specs.Float.Ieee.{fits, to_bits}
 use Rattle.lists.specs.Tab.{grid}
 use Rattle.edges.specs.Edges.{middle}
-use Rattle.edges.specs.declared.range.Range.{Range}
 
 -- every value has bits of at most infinity's: none is negative, -0.0 or NaN
 abbrev pub AllPlain : List Float → Type 0
@@ -34,8 +33,3 @@ start s p row column i = (row / 4 + (s * i + i * i / 7 % s)) * column + (column 
 -- a part of the sample: one row of each s, and of it one p-th of the columns. With 1 and 1 it is the sample.
 abbrev pub part : ℕ → ℕ → ℕ → ℕ → List Float → List Float
 part s p row column g = grid (taken s row) (taken p column) (λ i j. get_or g (start s p row column i + j) nan)
-
--- up to mid where more than `rank` values are at most mid, else above it
-pub record Cut (r : Range) (mid rank count : ℕ) (s : Range) : Type 0 where
-  pub lower : rank < count → (s.lo ≡ r.lo) × (s.hi ≡ mid)
-  pub upper : count ≤ rank → (s.lo ≡ mid + 1) × (s.hi ≡ r.hi)

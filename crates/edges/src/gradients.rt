@@ -76,7 +76,8 @@ impl<'a> Gradients<'a> {
     // How many values a part has.
     #[tactic(auto, using(crate::proofs::Sample::length_part))]
     pub(crate) fn size(&self, part: Part) -> usize
-        ensures { (result ≡ length (Inner.part part.every part.parts self.now.row self.now.column self.now.values.now)) × (result ≤ 2 ^ 22) }
+        ensures is { result ≡ length (Inner.part part.every part.parts self.now.row self.now.column self.now.values.now) }
+        ensures few { result ≤ 2 ^ 22 }
     {
         self.rows(part) * self.columns(part)
     }
@@ -107,9 +108,11 @@ impl<'a> Gradients<'a> {
 
     // How many values of a part are at most the value with these bits.
     #[tactic(auto, using(crate::proofs::Sample::count_row))]
-    pub(crate) fn count_at_most(&self, part: Part, bits: u32) -> u32
+    pub(crate) fn count_part(&self, part: Part, bits: u32) -> u32
         requires { bits ≤ 0x7F800000 }
-        ensures { result ≡ count_at_most (to_bits binary32) bits (Inner.part part.every part.parts self.now.row self.now.column self.now.values.now) }
+        ensures { result
+            ≡ count_at_most (to_bits binary32) bits
+            (Inner.part part.every part.parts self.now.row self.now.column self.now.values.now) }
     {
         let mut count: u32 = 0;
         for i in 0..self.rows(part) {

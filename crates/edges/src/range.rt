@@ -1,5 +1,5 @@
 // A range of the bits of plain values, which is cut until one is left.
-ghost use Rattle.std.specs.Prelude.{◌≡◌, ◌≤◌, ◌<◌};
+ghost use Rattle.std.specs.Prelude.{◌≡◌, ◌+◌, ◌≤◌, ◌<◌};
 
 // The bits of 0.01 and of 1.0, the limits of the threshold.
 const LEAST_BITS: u32 = 0x3C23D70A;
@@ -15,8 +15,6 @@ pub(crate) struct Range {
 }
 
 impl Range {
-    ghost use Rattle.edges.specs.Inner.{Cut};
-
     // All bits that a threshold may have.
     pub(crate) fn limits() -> Self
         ensures { (result.lo ≡ 0x3C23D70A) × (result.hi ≡ 0x3F800000) }
@@ -37,7 +35,8 @@ impl Range {
     // The side of the range, up to mid or above it, that holds the bits of entry `rank`, where `count` values are at most mid.
     pub(crate) fn cut(self, mid: u32, rank: u64, count: u32) -> Self
         requires { (self.lo ≤ mid) × (mid < self.hi) }
-        ensures { Cut self mid rank count result }
+        ensures lower { rank < count → (result.lo ≡ self.lo) × (result.hi ≡ mid) }
+        ensures upper { count ≤ rank → (result.lo ≡ mid + 1) × (result.hi ≡ self.hi) }
     {
         if rank < u64::from(count) {
             Range {

@@ -118,7 +118,7 @@ fn guess(g: &Gradients, rank: u64, from: Range) -> u32
     let mut range = from;
     while range.lo < range.hi {
         let mid = range.halfway();
-        range = range.cut(mid, rank, g.count_at_most(Part::GUESSED, mid));
+        range = range.cut(mid, rank, g.count_part(Part::GUESSED, mid));
     }
     range.lo
 }
@@ -141,7 +141,8 @@ fn next_count(g: &Gradients, rank: u32, range: Range, seen: Seen) -> u32
 
 // The bits of the clipped entry `rank` of the sample.
 pub(crate) fn threshold_bits(g: &Gradients, rank: u32) -> u32
-    ensures found { let l = sample g.now.row g.now.column g.now.values.now in rank < length l → of_bits binary32 result ≡ clip (ranked l rank) }
+    ensures found { let l = sample g.now.row g.now.column g.now.values.now in
+        rank < length l → of_bits binary32 result ≡ clip (ranked l rank) }
     ensures ceiling { result ≤ 0x3F800000 }
 {
     let mut seen = Seen::first(g);
@@ -149,8 +150,8 @@ pub(crate) fn threshold_bits(g: &Gradients, rank: u32) -> u32
     while range.lo < range.hi {
         let mid = next_count(g, rank, range, seen);
         let counts = Counts {
-            of_all: g.count_at_most(Part::WHOLE, mid),
-            of_part: g.count_at_most(Part::GUESSED, mid),
+            of_all: g.count_part(Part::WHOLE, mid),
+            of_part: g.count_part(Part::GUESSED, mid),
         };
         seen = seen.next(rank, counts);
         range = range.cut(mid, u64::from(rank), counts.of_all);

@@ -28,7 +28,7 @@ pub fn gradient_of(height: usize, width: usize, planes: &[f32], out: &mut [f32])
     let column = width - 2;
     for i in 0..row {
         for j in 0..column {
-            out[i * column + j] = planes.gradient_at(i, j);
+            out[i * column + j] = planes.steepest(i, j);
         }
     }
 }

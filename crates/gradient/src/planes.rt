@@ -33,7 +33,7 @@ impl<'a> Planes<'a> {
     }
 
     // The largest of the six magnitudes at a point.
-    pub(crate) fn gradient_at(&self, i: usize, j: usize) -> f32
+    pub(crate) fn steepest(&self, i: usize, j: usize) -> f32
         requires { (i < self.now.height - 2) × (j < self.now.width - 2) }
         ensures { result ≡ gradient_at (view self.now.height self.now.width self.now.values.now).px i j }
     {

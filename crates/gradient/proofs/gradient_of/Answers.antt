@@ -15,7 +15,7 @@ loop-j-init c = placed_none
 pub loop-j-preserved : goal.loop-j-preserved
 loop-j-preserved c =
     let here = place _ _ _ _ c.requires.0.sides c.loop-i-test.true c.loop-j-test.true in
-    placed_more _ _ c.loop-j.invariant (omega (arith, here.point_in)) c.gradient_at.ensures
+    placed_more _ _ c.loop-j.invariant (omega (arith, here.point_in)) c.steepest.ensures
 
 pub loop-i-preserved : goal.loop-i-preserved
 loop-i-preserved c =

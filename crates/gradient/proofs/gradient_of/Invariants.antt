@@ -1,5 +1,5 @@
 -- The rows before i stand at the front, and this row stands behind them up to column j.
-use Rattle.std.proofs.Common.{◌*◌, ◌≤◌}
+use Rattle.std.proofs.Common.{◌*◌}
 use Rattle.lists.specs.Front.{AtFront}
 use Rattle.lists.specs.Inner.{Placed}
 use Rattle.lists.specs.Tab.{tab, grid}

@@ -1,9 +1,9 @@
-use Rattle.std.proofs.Common.{◌≡◌, ◌≤◌, ◌∙◌, sum, map, arith, rules}
+use Rattle.std.proofs.Common.{◌≡◌, ◌∙◌, sum, map, arith, rules}
 use Rattle.std.specs.Float.{binary32}
 use Rattle.std.specs.Float.Ieee.{to_bits}
 use Rattle.lists.proofs.Count.{count_le}
 use Rattle.rank.specs.Inner.{at_most}
-use Rattle.binary32.proofs.Plain.{bits_number, bits_plain}
+use Rattle.binary32.proofs.Plain.{bits_plain}
 use Rattle.edges.proofs.Sample.{below, count_sum}
 use Rattle.edges.proofs.gradients.count_row.Goals as goal
 

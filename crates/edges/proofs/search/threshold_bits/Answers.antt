@@ -16,7 +16,8 @@ loop-range-init c = encloses_all _ _ _ (plain c.args.g.now) c.limits-range.ensur
 pub loop-range-preserved : goal.loop-range-preserved
 loop-range-preserved c =
     let m = c.next_count-mid.ensures in
-    encloses_cut (plain c.args.g.now) c.loop-range.invariant m.0 m.1 c.count_at_most.ensures (rw c.from.ensures at c.cut-range.ensures)
+    encloses_cut (plain c.args.g.now) c.loop-range.invariant m.0 m.1 c.count_part.ensures (rw c.from.ensures at c.cut-range.ensures.lower)
+    (rw c.from.ensures at c.cut-range.ensures.upper)
 
 pub returns-clause-found : goal.returns-clause-found
 returns-clause-found c =

@@ -6,7 +6,7 @@ use Rattle.lists.specs.Tab.{grid}
 use Rattle.rank.specs.Inner.{count_at_most}
 use Rattle.edges.specs.Inner.{taken}
 use Rattle.edges.proofs.Sample.{part_at}
-use Rattle.edges.proofs.gradients.Gradients.count_at_most.Given as goal
+use Rattle.edges.proofs.gradients.Gradients.count_part.Given as goal
 
 abbrev pub invariant-loop-i : goal.invariant-loop-i
 invariant-loop-i l =
