@@ -1,16 +1,18 @@
 -- For the code alone: what it asks, and the search for the threshold's bits by counting, over parts of the sample. No contract of an entry
 -- point reaches these.
-use Rattle.std.specs.Prelude.{ℕ, ◌+◌, ◌*◌, ◌/◌, ◌%◌, ◌≤◌, ◌<◌, ◌≡◌, List, Float, length, get_or}
+use Rattle.std.specs.Prelude.{ℕ, ◌+◌, ◌*◌, ◌/◌, ◌%◌, ◌≤◌, ◌<◌, ◌≡◌, T, List, Float, length, get_or}
 use Rattle.std.specs.Float.{nan, binary32}
-use Rattle.std.specs.Float.Ieee.{to_bits}
+use Rattle.std.specs.Float.Ieee.{fits, to_bits}
 use Rattle.lists.specs.Tab.{grid}
-use Rattle.rank.specs.Rank.{ranked}
-use Rattle.edges.specs.Edges.{middle, clip}
-use Rattle.edges.specs.declared.Range.{Range}
+use Rattle.edges.specs.Edges.{middle}
 
 -- every value has bits of at most infinity's: none is negative, -0.0 or NaN
 abbrev pub AllPlain : List Float → Type 0
 AllPlain g = (k : ℕ) → k < length g → to_bits binary32 (get_or g k nan) ≤ 0x7F800000
+
+-- every value is one of binary32, as the type f32 has it
+abbrev pub AllHeld : List Float → Type 0
+AllHeld g = (k : ℕ) → T (fits binary32 (get_or g k nan))
 
 -- what the search asks of the gradients: their sides, and that each is a plain value
 pub record GradientsFit (row column : ℕ) (g : List Float) : Type 0 where
@@ -31,12 +33,3 @@ start s p row column i = (row / 4 + (s * i + i * i / 7 % s)) * column + (column 
 -- a part of the sample: one row of each s, and of it one p-th of the columns. With 1 and 1 it is the sample.
 abbrev pub part : ℕ → ℕ → ℕ → ℕ → List Float → List Float
 part s p row column g = grid (taken s row) (taken p column) (λ i j. get_or g (start s p row column i + j) nan)
-
--- the bits of the clipped entry `rank`
-abbrev pub sought : List Float → ℕ → ℕ
-sought l rank = to_bits binary32 (clip (ranked l rank))
-
--- up to mid where more than `rank` values are at most mid, else above it
-pub record Cut (r : Range) (mid rank count : ℕ) (s : Range) : Type 0 where
-  pub lower : rank < count → (s.lo ≡ r.lo) × (s.hi ≡ mid)
-  pub upper : count ≤ rank → (s.lo ≡ mid + 1) × (s.hi ≡ r.hi)

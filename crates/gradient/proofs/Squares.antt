@@ -4,7 +4,7 @@ use Prim.Native.Nat.{ℕ, ◌+◌, ◌-◌, ◌*◌, ◌≤◌, ◌<◌}
 use mathlib.Core.Path.{◌≡◌, ap, fun_ext, ◌∙◌}
 use mathlib.Core.Bool.{true}
 use mathlib.Core.List.{List}
-use native.Mathlib.Nat.{add-zero, add-mul}
+use native.Mathlib.Nat.{add-zero, add-mul, mul-le-mul_right}
 use native.Mathlib.Omega.{arith}
 use lib.Arith.{digits_lt}
 use lib.Ieee.{Float, nan, binary32, neg, of_bits}
@@ -48,13 +48,13 @@ square_sum p at down right =
 square_flip : (p : List Float) (at down right : ℕ) → flip (square p at down right) ≡ square p at right down
 square_flip p at down right = fun_ext (λ i. fun_ext (λ j. ap (λ (k : ℕ). get_or p k nan) (omega arith)))
 
-pub steeper_is : (p : List Float) (at w : ℕ) (best : Float)
-    → steeper (square p at w 1) 0 0 best
-    ≡ larger (larger best (magnitude (row_sum (square p at w 1) 0 0))) (magnitude (row_sum (square p at 1 w) 0 0))
+pub steeper_is : (p : List Float) (at down right : ℕ) (best : Float)
+    → steeper (square p at down right) 0 0 best
+    ≡ larger (larger best (magnitude (row_sum (square p at down right) 0 0))) (magnitude (row_sum (square p at right down) 0 0))
 unfolding steeper
-steeper_is p at w best =
-    let across = larger best (magnitude (row_sum (square p at w 1) 0 0)) in
-    ap (λ (a : ℕ → ℕ → Float). larger across (magnitude (row_sum a 0 0))) (square_flip p at w 1)
+steeper_is p at down right best =
+    let across = larger best (magnitude (row_sum (square p at down right) 0 0)) in
+    ap (λ (a : ℕ → ℕ → Float). larger across (magnitude (row_sum a 0 0))) (square_flip p at down right)
 
 plane_at : (h w : ℕ) (p : List Float) (i j k : ℕ) (best : Float)
     → steeper ((view h w p).px k) i j best ≡ steeper (square p (k * (h * w) + (i * w + j)) w 1) 0 0 best
@@ -63,35 +63,33 @@ plane_at h w p i j k best =
     ∙ ap (λ (a : ℕ → ℕ → Float). steeper a 0 0 best)
     (fun_ext (λ x. fun_ext (λ y. ap (λ (n : ℕ). get_or p n nan) (omega (arith, add-mul i x w)))))
 
-pub gradient_at_lem : (h w : ℕ) (p : List Float) (i j : ℕ)
-    → gradient_at (view h w p).px i j ≡ gradient_at (λ k. square p (k * (h * w) + (i * w + j)) w 1) 0 0
+-- the gradient, plane after plane
+pub gradient_at_is : (h w : ℕ) (p : List Float) (i j : ℕ)
+    → let turn = λ (k : ℕ) (best : Float). steeper (square p (k * (h * w) + (i * w + j)) w 1) 0 0 best in
+    gradient_at (view h w p).px i j ≡ turn 2 (turn 1 (turn 0 (of_bits binary32 0)))
 unfolding gradient_at
-gradient_at_lem h w p i j =
+gradient_at_is h w p i j =
     let on = plane_at h w p i j in
     ap (λ (best : Float). steeper ((view h w p).px 2) i j (steeper ((view h w p).px 1) i j best)) (on 0 _)
     ∙ ap (λ (best : Float). steeper ((view h w p).px 2) i j best) (on 1 _)
     ∙ on 2 _
 
--- plane after plane, each n values further on
-pub steepest_is : (p : List Float) (n w at : ℕ)
-    → steeper (square p (2 * n + at) w 1) 0 0 (steeper (square p (n + at) w 1) 0 0 (steeper (square p at w 1) 0 0 (of_bits binary32 0)))
-    ≡ gradient_at (λ k. square p (k * n + at) w 1) 0 0
-unfolding gradient_at
-steepest_is p n w at =
-    let turn : ℕ → Float → Float = λ x best. steeper (square p x w 1) 0 0 best in
-    ap (λ (x : ℕ). turn (2 * n + at) (turn (n + at) (turn x (of_bits binary32 0)))) (omega arith)
-    ∙ ap (λ (x : ℕ). turn (2 * n + at) (turn x (turn (0 * n + at) (of_bits binary32 0)))) (omega arith)
-
 -- the square at (i, j) stands in the plane, and the point in the output
 pub record Place (h w i j : ℕ) : Type 0 where
   pub square_in : i * w + j + (2 * w + 2) < h * w
   pub point_in : i * (w - 2) + j < (h - 2) * (w - 2)
-  pub area : h * w ≤ 16777216
 
 pub place : (h w i j : ℕ) → SidesIn least_plane_side h w → i < h - 2 → j < w - 2 → Place h w i j
 place h w i j s a b =
     let d : (i + 2) * w + (j + 2) < h * w = digits_lt (omega arith) (omega arith) in
-    record { square_in = omega (arith, d, add-mul i 2 w); point_in = digits_lt a b; area = s.area }
+    record { square_in = omega (arith, d, add-mul i 2 w); point_in = digits_lt a b }
+
+-- the square at (i, j) of plane k stands among the three planes
+pub square_in : (h w k i j : ℕ) → SidesIn least_plane_side h w → k < 3 → i < h - 2 → j < w - 2
+    → k * (h * w) + (i * w + j) + (2 * w + 2) < 3 * (h * w)
+square_in h w k i j s l a b =
+    let m : k * (h * w) ≤ 2 * (h * w) = mul-le-mul_right (h * w) (omega arith) in
+    omega (arith, m, (place h w i j s a b).square_in)
 
 -- ---- units give numbers
 
