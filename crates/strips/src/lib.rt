@@ -76,8 +76,9 @@ impl Block<'_> {
         requires { (j < self.now.width) × (i + w ≤ self.now.height) × (self.now.width * self.now.height ≤ length t.old) }
         ensures { RowTurned self.now.edges.now self.now.first self.now.stride self.now.height j i w t.old t.new }
     {
+        let at = j * self.height + i;
         for d in 0..w {
-            t[j * self.height + (i + d)] = self.edges[self.first + (i + d) * self.stride + j];
+            t[at + d] = self.edges[self.first + (i + d) * self.stride + j];
         }
     }
 
