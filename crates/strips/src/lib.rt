@@ -71,24 +71,16 @@ struct Block<'a> {
 }
 
 impl Block<'_> {
-    // Places i to i + w of row j of the turned block, which has rows of `height` bytes.
-    fn turn_row(&self, j: usize, i: usize, w: usize, t: &mut [u8])
-        requires { (j < self.now.width) × (i + w ≤ self.now.height) × (self.now.width * self.now.height ≤ length t.old) }
-        ensures { RowTurned self.now.edges.now self.now.first self.now.stride self.now.height j i w t.old t.new }
-    {
-        let at = j * self.height + i;
-        for d in 0..w {
-            t[at + d] = self.edges[self.first + (i + d) * self.stride + j];
-        }
-    }
-
-    // The same places of each row.
+    // Places i to i + w of each row of the turned block, which has rows of `height` bytes.
     fn turn_rows(&self, i: usize, w: usize, t: &mut [u8])
         requires { (i + w ≤ self.now.height) × (self.now.width * self.now.height ≤ length t.old) }
         ensures { RowsTurned self.now.edges.now self.now.first self.now.stride self.now.width self.now.height i w t.old t.new }
     {
         for j in 0..self.width {
-            self.turn_row(j, i, w, t);
+            let at = j * self.height + i;
+            for d in 0..w {
+                t[at + d] = self.edges[self.first + (i + d) * self.stride + j];
+            }
         }
     }
 
