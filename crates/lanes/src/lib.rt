@@ -218,16 +218,12 @@ impl Picture<'_> {
         above(v.lane(k))
     }
 
-    // The strips from column c on, one for each entry of `out`, all with target lane 2.
+    // The strips from column c on, one for each entry of `out`, all with target lane 2: side by side, so that each row of the picture is
+    // read once.
     pub fn sweep_scores(&self, c: usize, out: &mut [u32])
         requires { (self.now.across ≡ 1) × (length out.old ≤ 4096) × (c + length out.old + 3 ≤ self.now.last) }
         ensures { out.new ≡ swept_scores (points self.now.down 1 self.now.edges.now) self.now.from self.now.to c (length out.old) }
     {
-        let sweep = Sweep {
-            picture: *self,
-            c,
-            count: out.len(),
-        };
         let mut st = Strips {
             a: [0; 4096],
             b: [0; 4096],
@@ -236,52 +232,19 @@ impl Picture<'_> {
             e: [0; 4096],
         };
         st.starts(out.len());
-        sweep.rows(&mut st);
+        for t in 0..self.to - self.from {
+            let at = (self.from + (t + 1)) * self.down + c;
+            // the compiler packs this loop
+            for i in 0..out.len() {
+                let row = Row {
+                    edges: self.edges,
+                    at: at + i,
+                    across: 1,
+                };
+                let v = st.at(i).advanced(&row);
+                st.put(i, v);
+            }
+        }
         st.scores(out);
-    }
-}
-
-// Strips side by side, walked down together: `count` of them, the first from column c, all with target lane 2.
-#[derive(Clone, Copy)]
-struct Sweep<'a> {
-    picture: Picture<'a>,
-    c: usize,
-    count: usize,
-    ghost packed: { picture.across ≡ 1 },
-    ghost few: { count ≤ 4096 },
-    ghost inside: { c + count + 3 ≤ picture.last },
-}
-
-impl Sweep<'_> {
-    // One row, all strips: the compiler packs this loop.
-    fn row(&self, t: usize, st: &mut Strips)
-        requires { let p = self.now.picture in
-            (p.from + t < p.to) × Swept (points p.down 1 p.edges.now) p.from self.now.c self.now.count t st.old }
-        ensures { let p = self.now.picture in
-            Swept (points p.down 1 p.edges.now) p.from self.now.c self.now.count (t + 1) st.new }
-    {
-        let p = self.picture;
-        let at = (p.from + (t + 1)) * p.down + self.c;
-        for i in 0..self.count {
-            let row = Row {
-                edges: p.edges,
-                at: at + i,
-                across: 1,
-            };
-            let v = st.at(i).advanced(&row);
-            st.put(i, v);
-        }
-    }
-
-    // All rows, so that each row of the picture is read once.
-    fn rows(&self, st: &mut Strips)
-        requires { let p = self.now.picture in
-            Swept (points p.down 1 p.edges.now) p.from self.now.c self.now.count 0 st.old }
-        ensures { let p = self.now.picture in
-            Swept (points p.down 1 p.edges.now) p.from self.now.c self.now.count (p.to - p.from) st.new }
-    {
-        for t in 0..self.picture.to - self.picture.from {
-            self.row(t, st);
-        }
     }
 }

@@ -1,4 +1,4 @@
-use Rattle.std.proofs.Common.{rules, arith, ◌≡◌}
+use Rattle.std.proofs.Common.{arith, ◌≡◌}
 use Rattle.strips.proofs.Turning.{rows_more}
 use Rattle.strips.proofs.Block.turn_rows.Goals as goal
 
