@@ -1,8 +1,9 @@
--- For the code alone: the lanes of a strip while it is walked down, and strips side by side, all with target lane 2, with their lanes in
--- one list. No contract of an entry point reaches these.
-use Rattle.std.specs.Prelude.{ℕ, ◌+◌, ◌*◌, ◌≤◌, ◌<◌, Bool, not, ◌≡◌, List, eqb, get_or, length}
+-- For the code alone: the lanes of a strip while it is walked down, and strips side by side, all with target lane 2. No contract of an
+-- entry point reaches these.
+use Rattle.std.specs.Prelude.{ℕ, ◌+◌, ◌*◌, ◌≤◌, ◌<◌, Bool, not, ◌≡◌, List, eqb, get_or}
 use Rattle.lists.specs.Picture.{bit}
 use Rattle.lanes.specs.declared.Lanes.{Lanes}
+use Rattle.lanes.specs.declared.Strips.{Strips}
 use Rattle.lanes.specs.Score.{Place, onward, least_cost, on_strip, at, score}
 use Rattle.lists.specs.Tab.{tab}
 
@@ -38,31 +39,23 @@ Advanced e o across v w =
     LanesHold (n + 1) (onward (λ j. cost j + unset e (o + j * across))) w
 
 -- the lanes of a place's strip after t steps: 5 and the steps, less the least cost
-abbrev pub Walked : (ℕ → ℕ → Bool) → ℕ → Place → ℕ → Lanes → Type 0
-Walked E from p t v = LanesHold (t + 5) (least_cost (on_strip E from p) p.lane t) v
+pub record Walked (E : ℕ → ℕ → Bool) (from : ℕ) (p : Place) (t : ℕ) (v : Lanes) : Type 0 where
+  pub lanes : LanesHold (t + 5) (least_cost (on_strip E from p) p.lane t) v
 
 -- the scores of m strips from column c on, all with target lane 2
 abbrev pub swept_scores : (ℕ → ℕ → Bool) → ℕ → ℕ → ℕ → ℕ → List ℕ
 swept_scores E from to c m = tab m (λ i. score E from to (at (c + i) 2))
 
--- the lanes of strip i in the states of a sweep: lanes lie 4096 apart
-abbrev pub lanes_of : List ℕ → ℕ → Lanes
+-- the lanes of strip i in the states of a sweep
+abbrev pub lanes_of : Strips → ℕ → Lanes
 lanes_of st i =
-    record {
-      a = get_or st i 0;
-      b = get_or st (4096 + i) 0;
-      c = get_or st (8192 + i) 0;
-      d = get_or st (12288 + i) 0;
-      e = get_or st (16384 + i) 0;
-    }
+    record { a = get_or st.a i 0; b = get_or st.b i 0; c = get_or st.c i 0; d = get_or st.d i 0; e = get_or st.e i 0 }
 
 -- strip i has new lanes, the other strips are as they were
-pub record Stored (before : List ℕ) (i : ℕ) (v : Lanes) (after : List ℕ) : Type 0 where
-  pub len : length after ≡ 20480
+pub record Stored (before : Strips) (i : ℕ) (v : Lanes) (after : Strips) : Type 0 where
   pub new : lanes_of after i ≡ v
-  pub old : (j : ℕ) → j < 4096 → (j ≡ i → ⊥) → lanes_of after j ≡ lanes_of before j
+  pub old : (j : ℕ) → (j ≡ i → ⊥) → lanes_of after j ≡ lanes_of before j
 
 -- the m strips from column c on, t rows below row `from`, all with target lane 2
-pub record Swept (E : ℕ → ℕ → Bool) (from c m t : ℕ) (st : List ℕ) : Type 0 where
-  pub len : length st ≡ 20480
+pub record Swept (E : ℕ → ℕ → Bool) (from c m t : ℕ) (st : Strips) : Type 0 where
   pub strip : (i : ℕ) → i < m → Walked E from (at (c + i) 2) t (lanes_of st i)

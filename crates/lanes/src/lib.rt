@@ -11,6 +11,26 @@ ghost use Rattle.lanes.specs.Walk.{apart};
 ghost use Rattle.lanes.specs.Score.{at, onward, score};
 ghost use Rattle.lanes.specs.Inner.{Marks, LanesHold, Below, unset, Pointed, Advanced, lanes_of, Stored, Swept, swept_scores};
 
+// One row of a strip: its five points lie `across` apart, the first at `at`.
+#[derive(Clone, Copy)]
+pub struct Row<'a> {
+    pub edges: &'a [u8],
+    pub at: usize,
+    pub across: usize,
+    ghost inside: { at + 4 * across < length edges.now },
+    ghost marks: { Marks edges.now },
+}
+
+impl Row<'_> {
+    // 1 where the point of lane j is set, else 0.
+    fn point(&self, j: usize) -> u16
+        requires { j ≤ 4 }
+        ensures { result + unset self.now.edges.now (self.now.at + j * self.now.across) ≡ 1 }
+    {
+        u16::from(self.edges[self.at + j * self.across])
+    }
+}
+
 // Lanes 0 to 4 of one strip.
 #[derive(Clone, Copy)]
 pub struct Lanes {
@@ -21,65 +41,11 @@ pub struct Lanes {
     pub e: u16,
 }
 
-fn larger(a: u16, b: u16) -> u16
-    ensures { result ≡ max a b }
-{
-    if a > b { a } else { b }
-}
-
-fn one_less(x: u16) -> u16
-    ensures { result ≡ x - 1 }
-{
-    if x > 0 { x - 1 } else { 0 }
-}
-
-// Lane j with the point that it leaves from, where the points of a row start at o and lie `across` apart.
-fn with_point(e: &[u8], o: usize, across: usize, j: usize, x: u16) -> u16
-    requires { (o + 4 * across < length e.now) × Marks e.now × (j ≤ 4) × (x ≤ 60000) }
-    ensures { (n c : ℕ) → x + c ≡ n → result + (c + unset e.now (o + j * across)) ≡ n + 1 }
-{
-    x + e[o + j * across] as u16
-}
-
-fn with_points(e: &[u8], o: usize, across: usize, v: Lanes) -> Lanes
-    requires { (o + 4 * across < length e.now) × Marks e.now × (v.a + v.b + v.c + v.d + v.e ≤ 60000) }
-    ensures { Pointed e.now o across v result }
-{
-    Lanes {
-        a: with_point(e, o, across, 0, v.a),
-        b: with_point(e, o, across, 1, v.b),
-        c: with_point(e, o, across, 2, v.c),
-        d: with_point(e, o, across, 3, v.d),
-        e: with_point(e, o, across, 4, v.e),
-    }
-}
-
 // A lane from itself or from a lane beside it.
 fn best(own: u16, left: u16, right: u16) -> u16
     ensures { result ≡ max own (max left right - 1) }
 {
-    larger(own, one_less(larger(left, right)))
-}
-
-// A border lane has one neighbour.
-fn sideways(v: Lanes) -> Lanes
-    ensures { (n : ℕ) (cost : ℕ → ℕ) → Below n cost → LanesHold n cost v → LanesHold n (onward cost) result }
-{
-    Lanes {
-        a: best(v.a, v.b, v.b),
-        b: best(v.b, v.a, v.c),
-        c: best(v.c, v.b, v.d),
-        d: best(v.d, v.c, v.e),
-        e: best(v.e, v.d, v.d),
-    }
-}
-
-// One row on. The point of the new row is looked at in the old lane.
-pub fn advanced(e: &[u8], o: usize, across: usize, v: Lanes) -> Lanes
-    requires { (o + 4 * across < length e.now) × Marks e.now × (v.a + v.b + v.c + v.d + v.e ≤ 60000) }
-    ensures { Advanced e.now o across v result }
-{
-    sideways(with_points(e, o, across, v))
+    own.max(left.max(right).saturating_sub(1))
 }
 
 // 5 less how far a lane lies from the target.
@@ -87,38 +53,7 @@ fn near(j: u16, k: u16) -> u16
     requires { (j ≤ 4) × (k ≤ 4) }
     ensures { result + apart j k ≡ 5 }
 {
-    if j < k { 5 + j - k } else { 5 + k - j }
-}
-
-// The lanes before the first step.
-pub fn start(k: u16) -> Lanes
-    requires { k ≤ 4 }
-    ensures { LanesHold 5 (λ j. apart j k) result }
-{
-    Lanes {
-        a: near(0, k),
-        b: near(1, k),
-        c: near(2, k),
-        d: near(3, k),
-        e: near(4, k),
-    }
-}
-
-pub fn lane(v: Lanes, k: u16) -> u16
-    requires { k ≤ 4 }
-    ensures { (n : ℕ) (cost : ℕ → ℕ) → LanesHold n cost v → result + cost k ≡ n }
-{
-    if k == 0 {
-        v.a
-    } else if k == 1 {
-        v.b
-    } else if k == 2 {
-        v.c
-    } else if k == 3 {
-        v.d
-    } else {
-        v.e
-    }
+    5 - j.abs_diff(k)
 }
 
 // A score: what its lane holds above 5.
@@ -126,110 +61,190 @@ pub fn above(x: u16) -> u32
     requires { 5 ≤ x }
     ensures { result ≡ x - 5 }
 {
-    (x - 5) as u32
+    u32::from(x - 5)
 }
 
-// One strip by itself, on either axis, walked down row by row.
-pub fn strip_score(
-    e: &[u8],
-    down: usize,
-    across: usize,
-    from: usize,
-    to: usize,
-    c: usize,
-    k: u16,
-) -> u32
-    requires { (from ≤ to) × (to ≤ 4096) × (to * down + (c + 4) * across < length e.now) × Marks e.now × (k ≤ 4) }
-    ensures { result ≡ score (points down across e.now) from to (at c k) }
-{
-    let mut v = start(k);
-    let steps = to - from;
-    for t in 0..steps {
-        v = advanced(e, (from + (t + 1)) * down + c * across, across, v);
+impl Lanes {
+    // The lanes before the first step to target lane k.
+    pub fn start(k: u16) -> Self
+        requires { k ≤ 4 }
+        ensures { LanesHold 5 (λ j. apart j k) result }
+    {
+        Lanes {
+            a: near(0, k),
+            b: near(1, k),
+            c: near(2, k),
+            d: near(3, k),
+            e: near(4, k),
+        }
     }
-    above(lane(v, k))
-}
 
-// ---- strips side by side
-
-// The lanes of up to 4096 strips: lane j of strip i at 4096 * j + i.
-type States = [u16; 20480];
-
-fn lanes_at(st: &States, i: usize) -> Lanes
-    requires { i < 4096 }
-    ensures { result ≡ lanes_of st.now i }
-{
-    Lanes {
-        a: st[i],
-        b: st[4096 + i],
-        c: st[8192 + i],
-        d: st[12288 + i],
-        e: st[16384 + i],
+    // Each lane with the point that it leaves from.
+    fn with_points(self, row: &Row) -> Self
+        requires { self.a + self.b + self.c + self.d + self.e ≤ 60000 }
+        ensures { Pointed row.now.edges.now row.now.at row.now.across self result }
+    {
+        Lanes {
+            a: self.a + row.point(0),
+            b: self.b + row.point(1),
+            c: self.c + row.point(2),
+            d: self.d + row.point(3),
+            e: self.e + row.point(4),
+        }
     }
-}
 
-fn put(st: &mut States, i: usize, v: Lanes)
-    requires { (i < 4096) × (length st.old ≡ 20480) }
-    ensures { Stored st.old i v st.new }
-{
-    st[i] = v.a;
-    st[4096 + i] = v.b;
-    st[8192 + i] = v.c;
-    st[12288 + i] = v.d;
-    st[16384 + i] = v.e;
-}
-
-// All strips before the first step.
-fn starts(st: &mut States, m: usize)
-    requires { (m ≤ 4096) × (length st.old ≡ 20480) }
-    ensures { (E : ℕ → ℕ → Bool) (from c : ℕ) → Swept E from c m 0 st.new }
-{
-    for i in 0..m {
-        put(st, i, start(2));
+    // A border lane has one neighbour.
+    fn sideways(self) -> Self
+        ensures { (n : ℕ) (cost : ℕ → ℕ) → Below n cost → LanesHold n cost self → LanesHold n (onward cost) result }
+    {
+        Lanes {
+            a: best(self.a, self.b, self.b),
+            b: best(self.b, self.a, self.c),
+            c: best(self.c, self.b, self.d),
+            d: best(self.d, self.c, self.e),
+            e: best(self.e, self.d, self.d),
+        }
     }
-}
 
-// One row, all strips: the compiler packs this loop.
-fn sweep_row(e: &[u8], stride: usize, from: usize, t: usize, c: usize, m: usize, st: &mut States)
-    requires { (m ≤ 4096) × (from + t < 4096) × ((from + (t + 1)) * stride + c + m + 4 ≤ length e.now) × Marks e.now
-        × Swept (points stride 1 e.now) from c m t st.old }
-    ensures { Swept (points stride 1 e.now) from c m (t + 1) st.new }
-{
-    let o = (from + (t + 1)) * stride + c;
-    for i in 0..m {
-        let v = advanced(e, o + i, 1, lanes_at(st, i));
-        put(st, i, v);
+    // One row on. The point of the new row is looked at in the old lane.
+    pub fn advanced(self, row: &Row) -> Self
+        requires { self.a + self.b + self.c + self.d + self.e ≤ 60000 }
+        ensures { Advanced row.now.edges.now row.now.at row.now.across self result }
+    {
+        self.with_points(row).sideways()
+    }
+
+    pub fn lane(self, k: u16) -> u16
+        requires { k ≤ 4 }
+        ensures { (n : ℕ) (cost : ℕ → ℕ) → LanesHold n cost self → result + cost k ≡ n }
+    {
+        match k {
+            0 => self.a,
+            1 => self.b,
+            2 => self.c,
+            3 => self.d,
+            _ => self.e,
+        }
     }
 }
 
-// All rows, so that each row of the picture is read once.
-fn sweep(e: &[u8], stride: usize, from: usize, steps: usize, c: usize, m: usize, st: &mut States)
-    requires { (m ≤ 4096) × (from + steps ≤ 4096) × ((from + steps) * stride + c + m + 4 ≤ length e.now) × Marks e.now
-        × Swept (points stride 1 e.now) from c m 0 st.old }
-    ensures { Swept (points stride 1 e.now) from c m steps st.new }
-{
-    for t in 0..steps {
-        sweep_row(e, stride, from, t, c, m, st);
+// The lanes of up to 4096 strips, lane by lane: so the compiler packs the loop over the strips.
+#[derive(Drop)]
+struct Strips {
+    a: [u16; 4096],
+    b: [u16; 4096],
+    c: [u16; 4096],
+    d: [u16; 4096],
+    e: [u16; 4096],
+}
+
+impl Strips {
+    fn at(&self, i: usize) -> Lanes
+        requires { i < 4096 }
+        ensures { result ≡ lanes_of self.now i }
+    {
+        Lanes {
+            a: self.a[i],
+            b: self.b[i],
+            c: self.c[i],
+            d: self.d[i],
+            e: self.e[i],
+        }
+    }
+
+    fn put(&mut self, i: usize, v: Lanes)
+        requires { i < 4096 }
+        ensures { Stored self.old i v self.new }
+    {
+        self.a[i] = v.a;
+        self.b[i] = v.b;
+        self.c[i] = v.c;
+        self.d[i] = v.d;
+        self.e[i] = v.e;
+    }
+
+    // Strips 0 to m before the first step.
+    fn starts(&mut self, m: usize)
+        requires { m ≤ 4096 }
+        ensures { (i : ℕ) → i < m → LanesHold 5 (λ j. apart j 2) (lanes_of self.new i) }
+    {
+        for i in 0..m {
+            self.put(i, Lanes::start(2));
+        }
+    }
+
+    // What the middle lanes hold above 5.
+    fn scores(&self, out: &mut [u32])
+        requires { (length out.old ≤ 4096) × ((i : ℕ) → i < length out.old → 5 ≤ get_or self.now.c i 0) }
+        ensures { out.new ≡ tab (length out.old) (λ i. get_or self.now.c i 0 - 5) }
+    {
+        for i in 0..out.len() {
+            out[i] = above(self.c[i]);
+        }
     }
 }
 
-fn middle_lanes(st: &States, out: &mut [u32])
-    requires { (length out.old ≤ 4096) × ((i : ℕ) → i < length out.old → 5 ≤ get_or st.now (8192 + i) 0) }
-    ensures { out.new ≡ tab (length out.old) (λ i. get_or st.now (8192 + i) 0 - 5) }
-{
-    for i in 0..out.len() {
-        out[i] = above(st[8192 + i]);
-    }
+// A picture of bytes 0 and 1 as its strips are walked, from row `from` down to row `to`: the point in row i and column j is the byte at
+// i * down + j * across. Its columns end with column `last`.
+#[derive(Clone, Copy)]
+pub struct Picture<'a> {
+    pub edges: &'a [u8],
+    pub down: usize,
+    pub across: usize,
+    pub from: usize,
+    pub to: usize,
+    pub last: usize,
+    ghost ahead: { from ≤ to },
+    ghost bounded: { to ≤ 4096 },
+    ghost inside: { to * down + last * across < length edges.now },
+    ghost marks: { Marks edges.now },
 }
 
-// The strips from column c on, one for each entry of `out`, all with target lane 2.
-pub fn sweep_scores(e: &[u8], stride: usize, from: usize, to: usize, c: usize, out: &mut [u32])
-    requires { (from ≤ to) × (to ≤ 4096) × (length out.old ≤ 4096) × (to * stride + c + length out.old + 4 ≤ length e.now)
-        × Marks e.now }
-    ensures { out.new ≡ swept_scores (points stride 1 e.now) from to c (length out.old) }
-{
-    let mut st: States = [0; 20480];
-    starts(&mut st, out.len());
-    sweep(e, stride, from, to - from, c, out.len(), &mut st);
-    middle_lanes(&st, out);
+impl Picture<'_> {
+    // The strip from column c by itself, walked down row by row.
+    pub fn strip_score(&self, c: usize, k: u16) -> u32
+        requires { (c + 4 ≤ self.now.last) × (k ≤ 4) }
+        ensures { result ≡ score (points self.now.down self.now.across self.now.edges.now) self.now.from self.now.to (at c k) }
+    {
+        let mut v = Lanes::start(k);
+        for t in 0..self.to - self.from {
+            let at = (self.from + (t + 1)) * self.down + c * self.across;
+            v = v.advanced(&Row {
+                edges: self.edges,
+                at,
+                across: self.across,
+            });
+        }
+        above(v.lane(k))
+    }
+
+    // The strips from column c on, one for each entry of `out`, all with target lane 2: side by side, so that each row of the picture is
+    // read once.
+    pub fn sweep_scores(&self, c: usize, out: &mut [u32])
+        requires { (self.now.across ≡ 1) × (length out.old ≤ 4096) × (c + length out.old + 3 ≤ self.now.last) }
+        ensures { out.new ≡ swept_scores (points self.now.down 1 self.now.edges.now) self.now.from self.now.to c (length out.old) }
+    {
+        let mut st = Strips {
+            a: [0; 4096],
+            b: [0; 4096],
+            c: [0; 4096],
+            d: [0; 4096],
+            e: [0; 4096],
+        };
+        st.starts(out.len());
+        for t in 0..self.to - self.from {
+            let at = (self.from + (t + 1)) * self.down + c;
+            // the compiler packs this loop
+            for i in 0..out.len() {
+                let row = Row {
+                    edges: self.edges,
+                    at: at + i,
+                    across: 1,
+                };
+                let v = st.at(i).advanced(&row);
+                st.put(i, v);
+            }
+        }
+        st.scores(out);
+    }
 }

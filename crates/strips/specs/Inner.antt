@@ -27,14 +27,21 @@ two_scores E from to c k i d = set (set d i (score E from to (at c k))) (i + 1) 
 abbrev pub bordered : (ℕ → ℕ → Bool) → ℕ → ℕ → ℕ → ℕ → ℕ → List ℕ → List ℕ
 bordered E from to c₁ c₂ last d = two_scores E from to (c₂ - 4) 3 last (two_scores E from to c₁ 0 0 d)
 
--- w bytes, `stride` apart, stand side by side from o on; the others are as they were
-pub record Copied (e : List ℕ) (first stride w o : ℕ) (before after : List ℕ) : Type 0 where
-  pub len : length after ≡ length before
-  pub new : (d : ℕ) → d < w → get_or after (o + d) 0 ≡ get_or e (first + d * stride) 0
-  pub old : (k : ℕ) → ((d : ℕ) → d < w → k ≡ o + d → ⊥) → get_or after k 0 ≡ get_or before k 0
+-- a block of a picture, its first row at `first`, turned into rows of b bytes: its row d and column j stand in row j at place d
+abbrev pub Turns : List ℕ → ℕ → ℕ → ℕ → ℕ → ℕ → List ℕ → Type 0
+Turns e first stride b j d t = get_or t (j * b + d) 0 ≡ get_or e (first + d * stride + j) 0
 
--- w rows of a picture, the first at `first`, stand as w places from i on in n rows of b bytes; the places before i are kept
-pub record Turned (e : List ℕ) (first stride n b i w : ℕ) (before after : List ℕ) : Type 0 where
-  pub len : length after ≡ length before
-  pub new : (j d : ℕ) → j < n → d < w → get_or after (j * b + (i + d)) 0 ≡ get_or e (first + d * stride + j) 0
+-- w places from i on of row j are turned; all before and all behind is as it was
+pub record RowTurned (e : List ℕ) (first stride b j i w : ℕ) (before after : List ℕ) : Type 0 where
+  pub new : (d : ℕ) → d < w → Turns e first stride b j (i + d) after
+  pub low : (k : ℕ) → k < j * b + i → get_or after k 0 ≡ get_or before k 0
+  pub high : (k : ℕ) → j * b + (i + w) ≤ k → get_or after k 0 ≡ get_or before k 0
+
+-- w places from i on of n rows are turned; the places before i are as they were
+pub record RowsTurned (e : List ℕ) (first stride n b i w : ℕ) (before after : List ℕ) : Type 0 where
+  pub new : (j d : ℕ) → j < n → d < w → Turns e first stride b j (i + d) after
   pub old : (j d : ℕ) → d < i → get_or after (j * b + d) 0 ≡ get_or before (j * b + d) 0
+
+-- the first h places of each of n rows are turned
+pub record Turned (e : List ℕ) (first stride n b h : ℕ) (t : List ℕ) : Type 0 where
+  pub at : (j d : ℕ) → j < n → d < h → Turns e first stride b j d t

@@ -5,33 +5,24 @@
 ghost use Rattle.std.specs.Prelude.{◌≡◌, ◌≤◌, ◌<◌, ◌+◌, ◌*◌, ◌-◌, length};
 ghost use Rattle.lists.specs.Front.{AtFront};
 ghost use Rattle.lists.specs.Picture.{points};
-ghost use Rattle.lanes.specs.Inner.{Marks, swept_scores};
+ghost use Rattle.lanes.specs.Inner.{swept_scores};
 ghost use Rattle.strips.specs.Strip.{column_scores, row_scores};
-ghost use Rattle.strips.specs.Inner.{place_count, Scorable, two_scores, bordered, Copied, Turned};
+ghost use Rattle.strips.specs.Inner.{place_count, Scorable, two_scores, bordered, RowTurned, RowsTurned, Turned};
 
 use board::Bounds;
+use lanes::Picture;
 
 // Target lanes k and k + 1 of one strip, on either axis, into entries i and i + 1.
-fn two_scores(
-    e: &[u8],
-    down: usize,
-    across: usize,
-    from: usize,
-    to: usize,
-    c: usize,
-    k: u16,
-    i: usize,
-    out: &mut [u32],
-)
-    requires { (from ≤ to) × (to ≤ 4096) × (to * down + (c + 4) * across < length e.now) × Marks e.now × (k ≤ 3)
-        × (i + 1 < length out.old) }
-    ensures { out.new ≡ two_scores (points down across e.now) from to c k i out.old }
+fn two_scores(p: &Picture, c: usize, k: u16, i: usize, out: &mut [u32])
+    requires { (c + 4 ≤ p.now.last) × (k ≤ 3) × (i + 1 < length out.old) }
+    ensures { out.new ≡ two_scores (points p.now.down p.now.across p.now.edges.now) p.now.from p.now.to c k i out.old }
 {
-    out[i] = lanes::strip_score(e, down, across, from, to, c, k);
-    out[i + 1] = lanes::strip_score(e, down, across, from, to, c, k + 1);
+    out[i] = p.strip_score(c, k);
+    out[i + 1] = p.strip_score(c, k + 1);
 }
 
 // How many places are scored over columns c_1 to c_2 (or rows): as many as a score list has entries.
+#[tactic(auto, using(crate::proofs::Scores::place_count_lem))]
 pub fn place_count(c_1: usize, c_2: usize) -> usize
     requires { (c_1 + 4 ≤ c_2) × (c_2 ≤ 4096) }
     ensures { result ≡ place_count c_1 c_2 }
@@ -40,142 +31,129 @@ pub fn place_count(c_1: usize, c_2: usize) -> usize
 }
 
 // The first strip's lanes 0 and 1 into the first two entries, the last strip's lanes 3 and 4 into entries `last` and `last` + 1.
-fn border_scores(
-    e: &[u8],
-    down: usize,
-    across: usize,
-    from: usize,
-    to: usize,
-    c_1: usize,
-    c_2: usize,
-    last: usize,
-    out: &mut [u32],
-)
-    requires { (from ≤ to) × (to ≤ 4096) × (to * down + c_2 * across < length e.now) × Marks e.now × (c_1 + 4 ≤ c_2)
-        × (last + 1 < length out.old) }
-    ensures { out.new ≡ bordered (points down across e.now) from to c_1 c_2 last out.old }
+fn border_scores(p: &Picture, c_1: usize, last: usize, out: &mut [u32])
+    requires { (c_1 + 4 ≤ p.now.last) × (last + 1 < length out.old) }
+    ensures { out.new
+        ≡ bordered (points p.now.down p.now.across p.now.edges.now) p.now.from p.now.to c_1 p.now.last last out.old }
 {
-    two_scores(e, down, across, from, to, c_1, 0, 0, out);
-    two_scores(e, down, across, from, to, c_2 - 4, 3, last, out);
+    two_scores(p, c_1, 0, 0, out);
+    two_scores(p, p.last - 4, 3, last, out);
 }
 
 // The scores of columns c_1 to c_2 over rows r_1 to r_2; the points lie rows first, `stride` to a row.
+#[tactic(auto, using(crate::proofs::Scores::count_least, crate::proofs::Scores::count_most))]
 pub fn column_scores(edges: &[u8], stride: usize, b: Bounds, out: &mut [u32])
     requires { Scorable edges.now stride b × (place_count b.c_1 b.c_2 ≤ length out.old) }
     ensures { AtFront (column_scores (points stride 1 edges.now) b) out.old out.new }
 {
+    let p = Picture {
+        edges,
+        down: stride,
+        across: 1,
+        from: b.r_1,
+        to: b.r_2,
+        last: b.c_2,
+    };
     let last = place_count(b.c_1, b.c_2) - 2;
-    lanes::sweep_scores(edges, stride, b.r_1, b.r_2, b.c_1, &mut out[2..last]);
-    border_scores(edges, stride, 1, b.r_1, b.r_2, b.c_1, b.c_2, last, out);
+    p.sweep_scores(b.c_1, &mut out[2..last]);
+    border_scores(&p, b.c_1, last, out);
 }
 
-// w bytes, `stride` apart, side by side from o on.
-fn copy_down(e: &[u8], first: usize, stride: usize, w: usize, t: &mut [u8], o: usize)
-    requires { (first + w * stride < length e.now + stride) × (o + w ≤ length t.old) }
-    ensures { Copied e.now first stride w o t.old t.new }
-{
-    for d in 0..w {
-        t[o + d] = e[first + d * stride];
-    }
-}
-
-// w rows of n bytes become w places from i on in n rows of b bytes.
-fn turn_rows(
-    e: &[u8],
+// A block of a picture: `height` rows of `width` bytes, `stride` apart, the first at `first`.
+#[derive(Clone, Copy)]
+struct Block<'a> {
+    edges: &'a [u8],
     first: usize,
     stride: usize,
-    n: usize,
-    t: &mut [u8],
-    b: usize,
-    i: usize,
-    w: usize,
-)
-    requires { (first + n + w * stride ≤ length e.now + stride) × (stride ≤ length e.now) × (n * b ≤ length t.old) × (i + w ≤ b) }
-    ensures { Turned e.now first stride n b i w t.old t.new }
-{
-    for j in 0..n {
-        copy_down(e, first + j, stride, w, t, j * b + i);
+    width: usize,
+    height: usize,
+    ghost inside: { first + height * stride + width ≤ length edges.now + stride },
+}
+
+impl Block<'_> {
+    // Places i to i + w of each row of the turned block, which has rows of `height` bytes.
+    fn turn_rows(&self, i: usize, w: usize, t: &mut [u8])
+        requires { (i + w ≤ self.now.height) × (self.now.width * self.now.height ≤ length t.old) }
+        ensures { RowsTurned self.now.edges.now self.now.first self.now.stride self.now.width self.now.height i w t.old t.new }
+    {
+        for j in 0..self.width {
+            let at = j * self.height + i;
+            for d in 0..w {
+                t[at + d] = self.edges[self.first + (i + d) * self.stride + j];
+            }
+        }
+    }
+
+    // `width` rows of `height` bytes, eight at a time: the compiler unrolls that, and wide pictures stay fast.
+    fn turn(&self, t: &mut [u8])
+        requires { self.now.width * self.now.height ≤ length t.old }
+        ensures { Turned self.now.edges.now self.now.first self.now.stride self.now.width self.now.height self.now.height t.new }
+    {
+        let eights = self.height / 8;
+        for k in 0..eights {
+            self.turn_rows(8 * k, 8, t);
+        }
+        self.turn_rows(8 * eights, self.height % 8, t);
     }
 }
 
-// b rows of n bytes become n rows of b bytes, eight at a time: the compiler unrolls that, and wide pictures stay fast.
-fn turn(e: &[u8], first: usize, stride: usize, n: usize, t: &mut [u8], b: usize)
-    requires { (first + n + b * stride ≤ length e.now + stride) × (stride ≤ length e.now) × (n * b ≤ length t.old) }
-    ensures { Turned e.now first stride n b 0 b t.old t.new }
+// Row strips from row r on, one for each entry of `out`, with the picture's rows as its columns: turned, they are column strips.
+fn band_scores(p: &Picture, r: usize, turned: &mut [u8], out: &mut [u32])
+    requires { (p.now.down ≡ 1) × (length out.old ≤ 4096) × (r + length out.old + 3 ≤ p.now.last)
+        × ((p.now.to - p.now.from + 1) * (length out.old + 4) ≤ length turned.old) }
+    ensures { out.new ≡ swept_scores (points 1 p.now.across p.now.edges.now) p.now.from p.now.to r (length out.old) }
 {
-    let mut i = 0;
-    while 8 <= b - i {
-        turn_rows(e, first + i * stride, stride, n, t, b, i, 8);
-        i += 8;
-    }
-    turn_rows(e, first + i * stride, stride, n, t, b, i, b - i);
-}
-
-// Row strips from row r on, one for each entry of `out`, over columns from to `to`: turned, they are column strips.
-fn band_scores(
-    e: &[u8],
-    stride: usize,
-    from: usize,
-    to: usize,
-    r: usize,
-    turned: &mut [u8],
-    out: &mut [u32],
-)
-    requires { (from ≤ to) × (to ≤ 4096) × (length out.old ≤ 4096) × ((r + length out.old + 3) * stride + to < length e.now)
-        × ((to - from + 1) * (length out.old + 4) ≤ length turned.old) × Marks e.now }
-    ensures { out.new ≡ swept_scores (points 1 stride e.now) from to r (length out.old) }
-{
-    let n = to - from + 1;
-    let b = out.len() + 4;
-    let end = n * b;
-    turn(e, r * stride + from, stride, n, turned, b);
-    lanes::sweep_scores(&turned[..end], b, 0, to - from, 0, out);
-}
-
-fn shorter(a: usize, b: usize) -> usize
-    requires { (0 < a) × (0 < b) }
-    ensures { (0 < result) × (result ≤ a) × (result ≤ b) }
-{
-    if a < b { a } else { b }
+    let width = p.to - p.from + 1;
+    let height = out.len() + 4;
+    let end = width * height;
+    let block = Block {
+        edges: p.edges,
+        first: r * p.across + p.from,
+        stride: p.across,
+        width,
+        height,
+    };
+    block.turn(turned);
+    let columns = Picture {
+        edges: &turned[..end],
+        down: height,
+        across: 1,
+        from: 0,
+        to: p.to - p.from,
+        last: height - 1,
+    };
+    columns.sweep_scores(0, out);
 }
 
 // The same in bands of at most 128 strips: a turned band and its states then stay in the cache.
-fn banded_scores(
-    e: &[u8],
-    stride: usize,
-    from: usize,
-    to: usize,
-    r: usize,
-    turned: &mut [u8],
-    out: &mut [u32],
-)
-    requires { (from ≤ to) × (to ≤ 4096) × (r ≤ 4096) × ((r + length out.old + 3) * stride + to < length e.now)
-        × ((to - from + 1) * (length out.old + 4) ≤ length turned.old) × Marks e.now }
-    ensures { out.new ≡ swept_scores (points 1 stride e.now) from to r (length out.old) }
+fn banded_scores(p: &Picture, r: usize, turned: &mut [u8], out: &mut [u32])
+    requires { (p.now.down ≡ 1) × (r ≤ 4096) × (r + length out.old + 3 ≤ p.now.last)
+        × ((p.now.to - p.now.from + 1) * (length out.old + 4) ≤ length turned.old) }
+    ensures { out.new ≡ swept_scores (points 1 p.now.across p.now.edges.now) p.now.from p.now.to r (length out.old) }
 {
-    let mut i = 0;
-    while i < out.len() {
-        let end = i + shorter(out.len() - i, 128);
-        band_scores(e, stride, from, to, r + i, turned, &mut out[i..end]);
-        i = end;
+    for k in 0..out.len().div_ceil(128) {
+        let i = 128 * k;
+        let end = (i + 128).min(out.len());
+        band_scores(p, r + i, turned, &mut out[i..end]);
     }
 }
 
 // The scores of rows r_1 to r_2 over columns c_1 to c_2: the columns of the flipped picture. `turned` is scratch.
+#[tactic(auto, using(crate::proofs::Scores::count_least, crate::proofs::Scores::count_most))]
 pub fn row_scores(edges: &[u8], stride: usize, b: Bounds, turned: &mut [u8], out: &mut [u32])
     requires { Scorable edges.now stride b × ((b.c_2 - b.c_1 + 1) * place_count b.r_1 b.r_2 ≤ length turned.old)
         × (place_count b.r_1 b.r_2 ≤ length out.old) }
     ensures { AtFront (row_scores (points stride 1 edges.now) b) out.old out.new }
 {
-    let last = place_count(b.r_1, b.r_2) - 2;
-    banded_scores(
+    let p = Picture {
         edges,
-        stride,
-        b.c_1,
-        b.c_2,
-        b.r_1,
-        turned,
-        &mut out[2..last],
-    );
-    border_scores(edges, 1, stride, b.c_1, b.c_2, b.r_1, b.r_2, last, out);
+        down: 1,
+        across: stride,
+        from: b.c_1,
+        to: b.c_2,
+        last: b.r_2,
+    };
+    let last = place_count(b.r_1, b.r_2) - 2;
+    banded_scores(&p, b.r_1, turned, &mut out[2..last]);
+    border_scores(&p, b.r_1, last, out);
 }

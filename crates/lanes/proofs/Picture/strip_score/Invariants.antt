@@ -1,0 +1,7 @@
+use Rattle.lists.specs.Picture.{points}
+use Rattle.lanes.specs.Score.{at}
+use Rattle.lanes.specs.Inner.{Walked}
+use Rattle.lanes.proofs.Picture.strip_score.Given as goal
+
+abbrev pub invariant-loop-t : goal.invariant-loop-t
+invariant-loop-t l = Walked (points l.self.down l.self.across l.self.edges.now) l.self.from (at l.c l.k) l.t l.v

@@ -1,0 +1,15 @@
+use Rattle.std.proofs.Common.{ℕ, ◌+◌, ◌≤◌, ◌<◌, length}
+use Rattle.lists.specs.Picture.{points}
+use Rattle.lanes.specs.Score.{at}
+use Rattle.lanes.specs.Inner.{Walked, lanes_of, Swept}
+use Rattle.lanes.proofs.Picture.sweep_scores.Given as goal
+
+abbrev pub invariant-loop-t : goal.invariant-loop-t
+invariant-loop-t l = Swept (points l.self.down 1 l.self.edges.now) l.self.from l.c (length l.out) l.t l.st
+
+-- the strips before i are one row further than the others
+abbrev pub invariant-loop-i : goal.invariant-loop-i
+invariant-loop-i l =
+    let walked : ℕ → ℕ → Type 0 =
+    λ t j. Walked (points l.self.down 1 l.self.edges.now) l.self.from (at (l.c + j) 2) t (lanes_of l.st j) in
+    ((j : ℕ) → j < l.i → walked (l.t + 1) j) × ((j : ℕ) → l.i ≤ j → j < length l.out → walked l.t j)
