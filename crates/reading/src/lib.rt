@@ -92,7 +92,7 @@ fn remaining_of(s: &[u32], scratch: &mut [u32], array: &mut [u32]) -> Remaining
     }
     let kept = lines::kept_range(&array[0..n], e);
     Remaining::Lines {
-        from: kept.from,
+        from: kept.start,
         end: kept.end,
         e,
     }

@@ -122,7 +122,7 @@ returns-3 : tie.Need-returns
 returns-3 c =
     let e = c.chosen_gap-e.result in
     let kept = c.kept_range-kept.result in
-    let left : Remains e (lines_of c.args.s.now) kept.from kept.end = rw (found-is c.before.before.before.before.before.before.before.before.before.before.before.before.before.before.before) at c.kept_range-kept.ensures in
+    let left : Remains e (lines_of c.args.s.now) kept.start kept.end = rw (found-is c.before.before.before.before.before.before.before.before.before.before.before.before.before.before.before) at c.kept_range-kept.ensures in
     standing c.args.s.now c.requires.0 c.find_lines-n.ensures.1 left (e-is c.before.before.before)
     (some c.before.before.before.before.before) (omega (arith, c.if-e-ge-WIDE.false))
 
