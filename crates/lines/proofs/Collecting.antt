@@ -3,16 +3,16 @@ use Prim.Native.Nat.{ℕ, suc, ◌+◌, ◌-◌, ◌≤◌, ◌<◌}
 use mathlib.Core.Path.{◌≡◌, refl, sym, ◌∙◌}
 use mathlib.Core.Bool.{Bool, true, false, cond}
 use mathlib.Core.List.{List, [], ◌∷◌, ◌++◌, append-nil}
-use native.Mathlib.Nat.{sub-zero}
 use native.Mathlib.Numerals.{add-one}
 use native.Mathlib.Omega.{arith}
+use borrow.Author.Tests.{lt-ltb, le-ltb}
 use lib.Dec.{ltb}
-use lib.ListN.{length, get_or, set, drop, length-drop, length-append}
-use lib.Seq.{append_snoc, drop-cons}
+use lib.ListN.{length, get_or, set, take, drop, length-append}
+use lib.Seq.{append_snoc}
 use Rattle.lists.specs.Front.{AtFront}
-use Rattle.lists.specs.Tab.{tab_from, tab}
-use Rattle.lists.proofs.Front.{front_none, front_push}
-use Rattle.lines.specs.Lines.{keep, gaps, wide_gaps}
+use Rattle.lists.specs.Tab.{tab_from}
+use Rattle.lists.proofs.Front.{front_push}
+use Rattle.lines.specs.Lines.{keep, wide_gaps}
 
 -- n entries stand at the front of `out`; `rest` is still to come, and makes the whole with them
 pub record Collected (whole rest : List ℕ) (n : ℕ) (lent out : List ℕ) : Type 0 where
@@ -20,9 +20,6 @@ pub record Collected (whole rest : List ℕ) (n : ℕ) (lent out : List ℕ) : T
   pub counted : n ≡ length list
   pub front : AtFront list lent out
   pub whole_is : list ++ rest ≡ whole
-
-pub collected_none : {whole lent : List ℕ} → Collected whole whole 0 lent lent
-collected_none = record { list = []; counted = refl; front = front_none; whole_is = refl }
 
 collected_more : {whole rest : List ℕ} {n v : ℕ} {lent out : List ℕ} → Collected whole (v ∷ rest) n lent out → n < length lent
     → Collected whole rest (n + 1) lent (set out n v)
@@ -63,30 +60,33 @@ collected_passed v h e q = rw (e, q) at h
 abbrev pub places_from : (ℕ → Bool) → ℕ → ℕ → List ℕ
 places_from p i n = keep p (tab_from i (n - i) (λ k. k))
 
-pub places_all : (p : ℕ → Bool) (n : ℕ) → places_from p 0 n ≡ keep p (tab n (λ k. k))
-places_all p n = rw sub-zero
-
 pub places_next : (p : ℕ → Bool) (i n : ℕ) → i < n → places_from p i n ≡ kept_if (p i) i (places_from p (i + 1) n)
 places_next p i n h = let e : n - i ≡ suc (n - suc i) = omega arith in rw (e, add-one i)
 
-pub places_none : (p : ℕ → Bool) (i n : ℕ) → n ≤ i → places_from p i n ≡ []
-places_none p i n h = let e : n - i ≡ 0 = omega arith in rw e
+pub ruleset places = (places_next, collected_kept, collected_passed)
 
--- the wide gaps from entry k on: between it and the one before it, and so on
-abbrev pub gaps_from : ℕ → List ℕ → List ℕ
-gaps_from k l = wide_gaps (drop (k - 1) l)
+wide_next : (l : List ℕ) → 2 ≤ length l
+    → let g = get_or (take 2 l) 1 0 - get_or (take 2 l) 0 0 in wide_gaps l ≡ kept_if (ltb 5 g) g (wide_gaps (drop 1 l))
+wide_next [] h = absurd (omega arith)
+wide_next (x ∷ []) h = absurd (omega arith)
+wide_next (x ∷ y ∷ l) h = refl
 
-gaps_next : (j k : ℕ) (l : List ℕ) → k ≡ suc j → k < length l → gaps (drop j l) ≡ (get_or l k 0 - get_or l j 0) ∷ gaps (drop k l)
-gaps_next j k l e h = let n : suc j < length l = omega arith in rw (e, drop-cons l j 0 (omega arith), drop-cons l (suc j) 0 n)
+-- one pair of neighbours more
+module _ (rest next : List ℕ) {whole pair : List ℕ} {size g n : ℕ} {lent out : List ℕ} (h : Collected whole (wide_gaps rest) n lent out) (two : size ≡ 2)
+    (some : size ≤ length rest) (front : pair ≡ take size rest) (back : next ≡ drop 1 rest) (gap : g ≡ get_or pair 1 0 - get_or pair 0 0) where
+  split : wide_gaps rest ≡ kept_if (ltb 5 g) g (wide_gaps next)
+  split = rw (back, gap, front, two) (wide_next rest (omega arith))
 
-pub wide_next : (k g : ℕ) (l : List ℕ) → 1 ≤ k → k < length l → g ≡ get_or l k 0 - get_or l (k - 1) 0
-    → gaps_from k l ≡ kept_if (ltb 5 g) g (gaps_from (k + 1) l)
-wide_next k g l a h e = let q : k + 1 - 1 ≡ k = omega arith in rw (q, gaps_next (k - 1) k l (omega arith) h, e)
+  pub gap_kept : 5 < g → n < length lent → Collected whole (wide_gaps next) (n + 1) lent (set out n g)
+  gap_kept wide room = collected_kept g h split (lt-ltb 5 g wide) room
 
-gaps_none : (l : List ℕ) → length l ≤ 1 → gaps l ≡ []
-gaps_none [] h = refl
-gaps_none (x ∷ []) h = refl
-gaps_none (x ∷ y ∷ l) h = absurd (omega arith)
+  pub gap_passed : g ≤ 5 → Collected whole (wide_gaps next) n lent out
+  gap_passed narrow = collected_passed g h split (le-ltb 5 g narrow)
 
-pub wide_none : (k : ℕ) (l : List ℕ) → length l ≤ k → gaps_from k l ≡ []
-wide_none k l h = rw (gaps_none (drop (k - 1) l) (omega (arith, length-drop (k - 1) l)))
+pub ruleset next_gap = (gap_kept, gap_passed)
+
+pub gaps_done : (rest : List ℕ) {whole : List ℕ} {n : ℕ} {lent out : List ℕ} → Collected whole (wide_gaps rest) n lent out → length rest < 2
+    → (n ≡ length whole) × AtFront whole lent out
+gaps_done [] h few = collected_all h
+gaps_done (x ∷ []) h few = collected_all h
+gaps_done (x ∷ y ∷ l) h few = absurd (omega arith)

@@ -1,72 +1,64 @@
--- The two drops: how many entries each leaves, and both together as a part of the lines. Assumes nothing.
-use Prim.Native.Nat.{ℕ, zero, suc, ◌+◌, ◌-◌, ◌≤◌, ◌<◌}
+-- The two drops: how many entries each takes away, and both together as a part of the lines. Assumes nothing.
+use Prim.Native.Nat.{ℕ, zero, suc, ◌-◌, ◌≤◌}
 use mathlib.Core.Path.{◌≡◌, refl}
 use mathlib.Core.Bool.{Bool, true, false, cond}
 use mathlib.Core.List.{List, [], ◌∷◌}
-use native.Mathlib.Nat.{add-sub_cancel_left}
 use native.Mathlib.Omega.{arith}
 use lib.ListN.{length, get_or, take, drop, length-drop}
 use lib.Seq.{take_all}
+use Rattle.std.specs.Int.{from_bool}
+use Rattle.std.proofs.lemmas.Bool.Decides.{nat_tests}
 use Rattle.lines.specs.Lines.{narrow_gap, drop_first, drop_last}
-use Rattle.lines.specs.Inner.{Remains}
+use Rattle.lines.specs.Inner.{narrow_at, Remains}
 
 module _ (e : ℕ) where
-  pub first_alone : (l : List ℕ) → length l < 2 → l ≡ drop_first e l
-  first_alone [] h = refl
-  first_alone (x ∷ []) h = refl
-  first_alone (x ∷ y ∷ l) h = absurd (omega arith)
-
-  pub first_tested : (l : List ℕ) → 2 ≤ length l → drop_first e l ≡ cond (narrow_gap e (get_or l 1 0 - get_or l 0 0)) (drop 1 l) l
-  first_tested [] h = absurd (omega arith)
-  first_tested (x ∷ []) h = absurd (omega arith)
-  first_tested (x ∷ y ∷ l) h = refl
-
-  pub last_alone : (l : List ℕ) → length l < 2 → l ≡ drop_last e l
-  last_alone [] h = refl
-  last_alone (x ∷ []) h = refl
-  last_alone (x ∷ y ∷ l) h = absurd (omega arith)
+  first_drop : (l : List ℕ) → drop (from_bool (narrow_at e l 0)) l ≡ drop_first e l
+  first_drop [] = refl
+  first_drop (x ∷ []) = refl
+  first_drop (x ∷ y ∷ l) = at (narrow_gap e (y - x)) refl
+    where
+      at : (t : Bool) → narrow_gap e (y - x) ≡ t → drop (from_bool (narrow_at e (x ∷ y ∷ l) 0)) (x ∷ y ∷ l) ≡ cond t (y ∷ l) (x ∷ y ∷ l)
+      at true h = grind (arith, nat_tests)
+      at false h = grind (arith, nat_tests)
 
   last_at : (l : List ℕ) (n : ℕ) → length l ≡ suc (suc n)
-      → drop_last e l ≡ cond (narrow_gap e (get_or l (suc n) 0 - get_or l n 0)) (take (suc n) l) l
+      → take (suc (suc n) - from_bool (narrow_gap e (get_or l (suc n) 0 - get_or l n 0))) l ≡ drop_last e l
   last_at [] n h = absurd (omega arith)
   last_at (x ∷ []) n h = absurd (omega arith)
-  last_at (x ∷ y ∷ []) zero h = refl
+  last_at (x ∷ y ∷ []) zero h = grind arith
   last_at (x ∷ y ∷ []) (suc n) h = absurd (omega arith)
   last_at (x ∷ y ∷ z ∷ l) zero h = absurd (omega arith)
   last_at (x ∷ y ∷ z ∷ l) (suc n) h =
-      let gap = get_or (y ∷ z ∷ l) (suc n) 0 - get_or (y ∷ z ∷ l) n 0 in
-      rw (last_at (y ∷ z ∷ l) n (omega arith)) (front (narrow_gap e gap))
+      rw (← last_at (y ∷ z ∷ l) n (omega arith)) (front (narrow_gap e (get_or (y ∷ z ∷ l) (suc n) 0 - get_or (y ∷ z ∷ l) n 0)))
     where
-      front : (t : Bool) → x ∷ cond t (take (suc n) (y ∷ z ∷ l)) (y ∷ z ∷ l) ≡ cond t (x ∷ take (suc n) (y ∷ z ∷ l)) (x ∷ y ∷ z ∷ l)
-      front true = refl
-      front false = refl
+      front : (t : Bool) → take (suc (suc (suc n)) - from_bool t) (x ∷ y ∷ z ∷ l) ≡ x ∷ take (suc (suc n) - from_bool t) (y ∷ z ∷ l)
+      front true = let e : suc (suc (suc n)) - 1 ≡ suc (suc (suc n) - 1) = omega arith in rw e refl
+      front false = let e : suc (suc (suc n)) - 0 ≡ suc (suc (suc n) - 0) = omega arith in rw e refl
 
-  pub last_tested :
-      (l : List ℕ)
-      → 2 ≤ length l
-      → drop_last e l ≡ cond (narrow_gap e (get_or l (length l - 2 + 1) 0 - get_or l (length l - 2) 0)) (take (length l - 1) l) l
-  last_tested l h =
-      let n : length l - 2 + 1 ≡ suc (length l - 2) = omega arith in
-      let m : length l - 1 ≡ suc (length l - 2) = omega arith in
-      rw (n, m) (last_at l (length l - 2) (omega arith))
+  last_drop : (l : List ℕ) → take (length l - from_bool (narrow_at e l (length l - 2))) l ≡ drop_last e l
+  last_drop [] = refl
+  last_drop (x ∷ []) = refl
+  last_drop (x ∷ y ∷ l) = grind (arith, nat_tests, last_at (x ∷ y ∷ l) (length l) refl)
 
-  -- the lines from `from` on, as they are lent
-  abbrev part : List ℕ → ℕ → List ℕ
-  part l from = take (length l - from) (drop from l)
+  drop_fits : (l : List ℕ) (k : ℕ) → from_bool (narrow_at e l k) ≤ length l
+  drop_fits l k = grind (arith, nat_tests)
 
   pub both :
-      (l : List ℕ) (from kept : ℕ)
-      → from ≤ length l
-      → drop from l ≡ drop_first e l
-      → kept ≤ length (part l from)
-      → take kept (part l from) ≡ drop_last e (part l from)
-      → Remains e l from (from + kept)
-  both l from kept h first k last =
-      let n = length-drop from l in
-      let whole : part l from ≡ drop from l = take_all (length l - from) (drop from l) (omega arith) in
-      let m : kept ≤ length (drop from l) = rw whole at k in
+      (l : List ℕ) (start dropped : ℕ)
+      → start ≡ from_bool (narrow_at e l 0)
+      → (let rest = take (length l - start) (drop start l) in dropped ≡ from_bool (narrow_at e rest (length rest - 2)))
+      → Remains e l start (length l - dropped)
+  both l start dropped first last =
+      let rest = drop start l in
+      let long = length-drop start l in
+      let begun : start ≤ length l = omega (arith, drop_fits l 0) in
+      let whole : take (length l - start) rest ≡ rest = take_all (length l - start) rest (omega (arith, long)) in
+      let last' = rw whole at last in
+      let ended = drop_fits rest (length rest - 2) in
+      let n : length l - dropped - start ≡ length rest - from_bool (narrow_at e rest (length rest - 2)) = omega (arith, long, last') in
+      let is : rest ≡ drop_first e l = rw first (first_drop l) in
       record {
-        rising = omega arith;
+        rising = omega (arith, long, last', ended);
         inside = omega arith;
-        is = rw (add-sub_cancel_left, ← first) (rw whole at last);
+        is = rw (n, ← is) (last_drop rest);
       }

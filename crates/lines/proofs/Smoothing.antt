@@ -3,9 +3,9 @@ use Prim.Native.Nat.{ℕ, zero, suc, ◌+◌, ◌-◌, ◌≤◌, ◌<◌, max, 
 use mathlib.Core.Path.{◌≡◌, ◌∙◌}
 use mathlib.Core.Bool.{Bool, true, false, cond, ◌||◌}
 use mathlib.Core.List.{List}
-use native.Mathlib.Nat.{add-zero, sub-zero, le_refl}
+use native.Mathlib.Nat.{add-zero, le_refl}
 use native.Mathlib.Omega.{arith}
-use borrow.Author.Tests.{lt-ltb, le-ltb, le-leb, lt-leb}
+use borrow.Author.Tests.{lt-ltb, le-ltb, le-leb}
 use lib.Dec.{ltb, leb}
 use lib.ListN.{length, get_or, take, drop}
 use lib.Seq.{set-get_or}
@@ -14,6 +14,7 @@ use Rattle.lists.specs.Tab.{tab}
 use Rattle.lists.proofs.Tab.{length_tab_from, get_or_tab}
 use Rattle.lists.proofs.Front.{front_none, front_more, front_part, front_fits, front_within, front_beyond, front_over}
 use Rattle.lines.specs.Lines.{largest, entries_before, entries_behind, smoothed, smooth}
+use Rattle.lines.specs.Inner.{InLimits}
 use Rattle.lines.proofs.Windows.{largest_at, largest_le, largest_take, largest_drop}
 
 -- what is right already need not be written
@@ -31,13 +32,6 @@ first_four s i h = rw (lt-ltb i 4 h)
 
 last_four : (s : List ℕ) (i : ℕ) → 4 ≤ i → length s ≤ i + 4 → get_or s i 0 ≡ smoothed s i
 last_four s i h k = rw (le-ltb i 4 h, le-leb (length s) (i + 4) k)
-
-pub inner :
-    (s : List ℕ) (i : ℕ)
-    → 4 ≤ i
-    → i + 4 < length s
-    → smoothed s i ≡ max (get_or s i 0) (min (largest (take 4 (drop (i - 4) s))) (largest (take 4 (drop (i + 1) s))))
-inner s i h k = let e : i - (i - 4) ≡ 4 = omega arith in rw (le-ltb i 4 h, lt-leb (length s) (i + 4) k, e)
 
 -- the loop begins with a copy of s, and its first four are right
 pub smooth_begun : (s : List ℕ) {lent copy : List ℕ} → AtFront s lent copy → 4 ≤ length s → AtFront (tab 4 (smoothed s)) copy copy
@@ -74,6 +68,11 @@ largest_smooth s =
     let n = length_tab_from 0 (length s) (smoothed s) in
     largest_le (tab (length s) (smoothed s)) (largest s) (λ k h. rw (get_or_tab (length s) k (smoothed s) 0 (omega arith)) (smoothed_le s k))
 
--- the smoothed list as a part of the scratch that it stands in
-pub smooth_part : (s : List ℕ) {lent t : List ℕ} → AtFront (smooth s) lent t → take (length s - 0) t ≡ smooth s
-smooth_part s h = rw sub-zero (front_part (length s) (length_smooth s) h)
+-- the smoothed list as a part of the scratch that it stands in, and within the limits as s is
+pub smooth_part : (s : List ℕ) {lent t : List ℕ} → AtFront (smooth s) lent t → take (length s) t ≡ smooth s
+smooth_part s h = front_part (length s) (length_smooth s) h
+
+pub smooth_limits : (s : List ℕ) {lent t : List ℕ} → AtFront (smooth s) lent t → InLimits s → InLimits (take (length s) t)
+smooth_limits s h limits = rw (smooth_part s h) (grind (arith, length_smooth s, largest_smooth s))
+
+pub ruleset smooth_scores = (smooth_part, smooth_limits)

@@ -2,120 +2,70 @@
 // Laws for callers: proofs/Laws (the lines rise, two remain after the drops, e is above 5 and at most their extent).
 #![tactic(auto)]
 
-ghost use Rattle.std.specs.Prelude.{◌≡◌, ◌||◌, ◌+◌, ◌-◌, ◌≤◌, ◌<◌, min, max, eqb, length, get_or, take, drop};
+ghost use Rattle.std.specs.Prelude.{◌≡◌, ◌||◌, ◌+◌, ◌≤◌, ◌<◌, min, max, eqb, length};
 ghost use Rattle.lists.specs.Front.{AtFront};
-ghost use Rattle.lines.specs.Lines.{largest, entries_before, entries_behind, smoothed, smooth, stands_out, is_line, lines_of};
-ghost use Rattle.lines.specs.Inner.{InLimits, Remains};
-ghost use Rattle.lines.specs.Lines.{line_threshold};
-ghost use Rattle.lines.specs.Lines.{places_of, wide_gaps, chosen_gap, narrow_gap, drop_first, drop_last};
+ghost use Rattle.lines.specs.Lines.{largest, smoothed, smooth, line_threshold, entries_before, entries_behind, stands_out};
+ghost use Rattle.lines.specs.Lines.{is_line, places_of, lines_of, wide_gaps, chosen_gap};
+ghost use Rattle.lines.specs.Inner.{InLimits, narrow_at, Remains};
+
+use lists::EqualTo;
+use std::ops::Range;
 
 // No score is above this, and no list longer.
 const MOST: u32 = 4096;
 
-fn larger(a: u32, b: u32) -> u32
-    ensures { result ≡ max a b }
-{
-    if a > b { a } else { b }
-}
-
 pub fn largest_of(s: &[u32]) -> u32
     ensures { result ≡ largest s.now }
 {
-    let mut m: u32 = 0;
-    for k in 0..s.len() {
-        m = larger(m, s[k]);
+    let mut most: u32 = 0;
+    for x in s {
+        most = most.max(*x);
     }
-    m
+    most
 }
 
 // ---- smoothing
 
-// The larger and the smaller of two scores. They are apart from `larger` above: that one takes any number, as a list is
-// not yet checked where its largest entry is asked for, and these two may count on scores of at most 4,096.
+// The larger and the smaller of two scores. They are apart from the library's `max` and `min`: those take any numbers, and
+// these two may count on scores of at most 4,096.
 fn larger_score(a: u32, b: u32) -> u32
     requires { (a ≤ 4096) × (b ≤ 4096) }
     ensures { result ≡ max a b }
 {
-    if a > b { a } else { b }
+    a.max(b)
 }
 
 fn smaller_score(a: u32, b: u32) -> u32
     requires { (a ≤ 4096) × (b ≤ 4096) }
     ensures { result ≡ min a b }
 {
-    if a < b { a } else { b }
+    a.min(b)
 }
 
-fn largest_of_four(s: &[u32], at: usize) -> u32
-    requires { (at + 4 ≤ length s.now) × (largest s.now ≤ 4096) }
-    ensures { result ≡ largest (take 4 (drop at s.now)) }
+fn largest_of_four(s: &[u32]) -> u32
+    requires { (length s.now ≡ 4) × (largest s.now ≤ 4096) }
+    ensures { result ≡ largest s.now }
 {
-    larger_score(
-        s[at],
-        larger_score(s[at + 1], larger_score(s[at + 2], s[at + 3])),
-    )
-}
-
-// A place with four neighbours on each side.
-fn smooth_at(s: &[u32], i: usize) -> u32
-    requires { (4 ≤ i) × (i + 4 < length s.now) × (largest s.now ≤ 4096) }
-    ensures { result ≡ smoothed s.now i }
-{
-    larger_score(
-        s[i],
-        smaller_score(largest_of_four(s, i - 4), largest_of_four(s, i + 1)),
-    )
-}
-
-// The first and last four are as in s; those between have four neighbours on each side.
-pub fn smooth_into(s: &[u32], t: &mut [u32])
-    requires { (4 ≤ length s.now) × (largest s.now ≤ 4096) × (length s.now ≤ length t.old) }
-    ensures { AtFront (smooth s.now) t.old t.new }
-{
-    lists::copy_u32(s, s.len(), t);
-    let end = s.len() - 4;
-    for i in 4..end {
-        t[i] = smooth_at(s, i);
-    }
-}
-
-// ---- the threshold
-
-pub fn line_threshold(s: &[u32]) -> f32
-    requires { InLimits s.now }
-    ensures { result ≡ line_threshold s.now }
-{
-    let j = binary32::trunc(0.85 * s.len() as f32) as usize;
-    let high = rank::entry_of(s, j, MOST);
-    let last = rank::entry_of(s, s.len() - 1, MOST);
-    (high as f32 + last as f32 * 0.75) / 2.0
+    larger_score(s[0], larger_score(s[1], larger_score(s[2], s[3])))
 }
 
 // ---- the line test
 
 // The seven entries before place i, as far as there are so many.
-fn seven_before<'a>(t: &'a [u32], i: usize) -> &'a [u32]
+fn seven_before(t: &[u32], i: usize) -> &[u32]
     requires { i < length t.now }
     ensures { result.now ≡ entries_before 7 t.now i }
 {
-    if i < 7 {
-        return &t[0..i];
-    }
-    let from = i - 7;
-    &t[from..i]
+    &t[i.saturating_sub(7)..i]
 }
 
 // The seven after it.
-fn seven_behind<'a>(t: &'a [u32], i: usize) -> &'a [u32]
+fn seven_behind(t: &[u32], i: usize) -> &[u32]
     requires { i < length t.now }
     ensures { result.now ≡ entries_behind 7 t.now i }
 {
-    let from = i + 1;
-    if t.len() - from < 7 {
-        return &t[from..];
-    }
-    let end = from + 7;
-    &t[from..end]
+    let rest = &t[i + 1..];
+    &rest[..rest.len().min(7)]
 }
 
 // The equals before are those after, or one less.
@@ -123,93 +73,131 @@ fn balanced(before: u32, after: u32) -> bool
     requires { (before ≤ 7) × (after ≤ 7) }
     ensures { result ≡ (eqb before after || eqb (before + 1) after) }
 {
-    if before == after {
-        return true;
-    }
-    before + 1 == after
+    before == after || before + 1 == after
 }
 
 // Whether no entry of the windows a before and b behind is above v, and the equals are balanced.
+#[tactic(auto, using(lists::proofs::Count::count_le))]
 fn stands_out(v: u32, a: &[u32], b: &[u32]) -> bool
     requires { (length a.now ≤ 7) × (length b.now ≤ 7) }
     ensures { result ≡ stands_out v a.now b.now }
 {
-    if largest_of(a) > v {
-        return false;
-    }
-    if largest_of(b) > v {
-        return false;
-    }
-    balanced(lists::count_equal(a, v), lists::count_equal(b, v))
+    largest_of(a) <= v
+        && largest_of(b) <= v
+        && balanced(lists::count_passing(a, &EqualTo(v)), lists::count_passing(b, &EqualTo(v)))
 }
 
-// Few places reach the threshold, so it is tested first.
-fn is_line(th: f32, t: &[u32], i: usize) -> bool
-    requires { (i < length t.now) × (largest t.now ≤ 4096) }
-    ensures { result ≡ is_line th t.now i }
-{
-    let v = t[i];
-    if v as f32 >= th {
-        return stands_out(v, seven_before(t, i), seven_behind(t, i));
-    }
-    false
+// ---- scores
+
+// A list of scores within the limits.
+#[derive(Clone, Copy)]
+struct Scores<'a> {
+    values: &'a [u32],
+    ghost limits: { InLimits values.now },
 }
 
-// The places of t that are lines.
-fn collect_lines(th: f32, t: &[u32], lines: &mut [u32]) -> usize
-    requires { (length t.now ≤ 4096) × (largest t.now ≤ 4096) × (length t.now ≤ length lines.old) }
-    ensures counted { result ≡ length (places_of th t.now) }
-    ensures front { AtFront (places_of th t.now) lines.old lines.new }
-{
-    let mut n: usize = 0;
-    for i in 0..t.len() {
-        if is_line(th, t, i) {
-            lines[n] = i as u32;
-            n = n + 1;
+impl Scores<'_> {
+    // A place with four neighbours on each side.
+    #[tactic(auto, using(crate::proofs::Windows::largest_part, crate::proofs::Windows::largest_at))]
+    fn smooth_at(&self, i: usize) -> u32
+        requires { (4 ≤ i) × (i + 4 < length self.now.values.now) }
+        ensures { result ≡ smoothed self.now.values.now i }
+    {
+        let s = self.values;
+        let before = largest_of_four(&s[i - 4..i]);
+        let behind = largest_of_four(&s[i + 1..i + 5]);
+        larger_score(s[i], smaller_score(before, behind))
+    }
+
+    // The first and last four are as in the list; those between have four neighbours on each side.
+    #[tactic(auto, using(crate::proofs::Smoothing::smooth_begun))]
+    fn smooth_into(&self, t: &mut [u32])
+        requires { length self.now.values.now ≤ length t.old }
+        ensures { AtFront (smooth self.now.values.now) t.old t.new }
+    {
+        let n = self.values.len();
+        lists::copy_front(self.values, n, t);
+        for i in 4..n - 4 {
+            t[i] = self.smooth_at(i);
         }
     }
-    n
+
+    #[tactic(auto, using(crate::proofs::Entries::exact), unfolding(crate::specs::Lines::line_threshold))]
+    fn line_threshold(&self) -> f32
+        ensures { result ≡ line_threshold self.now.values.now }
+    {
+        let n = self.values.len();
+        let j = binary32::trunc(0.85 * n as f32) as usize;
+        let high = rank::entry_of(self.values, j, MOST);
+        let last = rank::entry_of(self.values, n - 1, MOST);
+        (high as f32 + last as f32 * 0.75) / 2.0
+    }
+
+    // Few places reach the threshold, so it is tested first.
+    #[tactic(auto, using(crate::proofs::Entries::exact), unfolding(crate::specs::Lines::is_line))]
+    fn is_line(&self, th: f32, i: usize) -> bool
+        requires { i < length self.now.values.now }
+        ensures { result ≡ is_line th self.now.values.now i }
+    {
+        let t = self.values;
+        t[i] as f32 >= th && stands_out(t[i], seven_before(t, i), seven_behind(t, i))
+    }
+
+    // The places that are lines, and how many.
+    #[tactic(auto, using(crate::proofs::Collecting::places))]
+    fn collect_lines(&self, th: f32, lines: &mut [u32]) -> usize
+        requires { length self.now.values.now ≤ length lines.old }
+        ensures counted { result ≡ length (places_of th self.now.values.now) }
+        ensures front { AtFront (places_of th self.now.values.now) lines.old lines.new }
+    {
+        let mut n: usize = 0;
+        for i in 0..self.values.len() {
+            if self.is_line(th, i) {
+                lines[n] = i as u32;
+                n += 1;
+            }
+        }
+        n
+    }
 }
 
 // The lines of s, and how many; t is scratch.
+#[tactic(auto, using(crate::proofs::Smoothing::smooth_scores), unfolding(crate::specs::Lines::lines_of))]
 pub fn find_lines(s: &[u32], t: &mut [u32], lines: &mut [u32]) -> usize
     requires { InLimits s.now × (length s.now ≤ length t.old) × (length s.now ≤ length lines.old) }
     ensures counted { result ≡ length (lines_of s.now) }
     ensures front { AtFront (lines_of s.now) lines.old lines.new }
 {
-    smooth_into(s, t);
-    let th = line_threshold(s);
-    let n = s.len();
-    collect_lines(th, &t[0..n], lines)
+    let scores = Scores { values: s };
+    scores.smooth_into(t);
+    let smoothed = Scores {
+        values: &t[..s.len()],
+    };
+    smoothed.collect_lines(scores.line_threshold(), lines)
 }
 
 // ---- gaps and their estimate
 
-// The difference as the definitions have it: 0 where y is not above x.
-fn gap(x: u32, y: u32) -> u32
-    ensures { result ≡ y - x }
-{
-    if x < y { y - x } else { 0 }
-}
-
 // The gaps above 5, and how many.
+#[tactic(auto, using(crate::proofs::Collecting::next_gap))]
 pub fn wide_gaps(lines: &[u32], out: &mut [u32]) -> usize
     requires { length lines.now ≤ length out.old }
     ensures counted { result ≡ length (wide_gaps lines.now) }
     ensures front { AtFront (wide_gaps lines.now) out.old out.new }
 {
     let mut n: usize = 0;
-    for k in 1..lines.len() {
-        let g = gap(lines[k - 1], lines[k]);
-        if g > 5 {
-            out[n] = g;
-            n = n + 1;
+    for pair in lines.windows(2) {
+        let gap = pair[1].saturating_sub(pair[0]);
+        if gap > 5 {
+            out[n] = gap;
+            n += 1;
         }
     }
     n
 }
 
 // Of the gaps d the one that is e.
+#[tactic(auto, using(crate::proofs::Entries::all_counted))]
 pub fn chosen_gap(d: &[u32]) -> u32
     requires { (length d.now ≤ 4096) × (largest d.now ≤ 4096) }
     ensures { result ≡ chosen_gap d.now }
@@ -220,56 +208,23 @@ pub fn chosen_gap(d: &[u32]) -> u32
 
 // ---- the two drops
 
-// Whether the gap from entry k to the next is narrow.
+// Whether there is a gap from entry k to the next, and it is narrow.
+#[tactic(auto, using(crate::proofs::Entries::exact), unfolding(crate::specs::Lines::narrow_gap))]
 fn narrow_after(lines: &[u32], k: usize, e: u32) -> bool
-    requires { (k + 1 < length lines.now) × (largest lines.now ≤ 4096) × (e ≤ 4096) }
-    ensures { result ≡ narrow_gap e (get_or lines.now (k + 1) 0 - get_or lines.now k 0) }
+    requires { (k ≤ length lines.now) × (largest lines.now ≤ 4096) × (e ≤ 4096) }
+    ensures { result ≡ narrow_at e lines.now k }
 {
-    gap(lines[k], lines[k + 1]) as f32 <= e as f32 * 0.8
+    k + 1 < lines.len() && lines[k + 1].saturating_sub(lines[k]) as f32 <= e as f32 * 0.8
 }
 
-// How many entries the first drop takes away.
-fn first_kept(lines: &[u32], e: u32) -> usize
+// Where the lines stand that remain. The first drop tests the first two, the last drop the last two of what that leaves.
+#[tactic(auto, using(crate::proofs::Drops::both))]
+pub fn kept_range(lines: &[u32], e: u32) -> Range<usize>
     requires { (largest lines.now ≤ 4096) × (e ≤ 4096) }
-    ensures { (result ≤ length lines.now) × (drop result lines.now ≡ drop_first e lines.now) }
+    ensures { Remains e lines.now result.start result.end }
 {
-    if lines.len() < 2 {
-        return 0;
-    }
-    if narrow_after(lines, 0, e) { 1 } else { 0 }
-}
-
-// How many entries the last drop leaves.
-fn last_kept(lines: &[u32], e: u32) -> usize
-    requires { (largest lines.now ≤ 4096) × (e ≤ 4096) }
-    ensures { (result ≤ length lines.now) × (take result lines.now ≡ drop_last e lines.now) }
-{
-    let n = lines.len();
-    if n < 2 {
-        return n;
-    }
-    if narrow_after(lines, n - 2, e) {
-        n - 1
-    } else {
-        n
-    }
-}
-
-// The lines that remain are those from `from` up to `end`.
-#[derive(Clone, Copy)]
-pub struct KeptRange {
-    pub from: usize,
-    pub end: usize,
-}
-
-pub fn kept_range(lines: &[u32], e: u32) -> KeptRange
-    requires { (largest lines.now ≤ 4096) × (e ≤ 4096) }
-    ensures { Remains e lines.now result.from result.end }
-{
-    let from = first_kept(lines, e);
-    let kept = last_kept(&lines[from..], e);
-    KeptRange {
-        from,
-        end: from + kept,
-    }
+    let start = usize::from(narrow_after(lines, 0, e));
+    let rest = &lines[start..];
+    let dropped = usize::from(narrow_after(rest, rest.len().saturating_sub(2), e));
+    start..lines.len() - dropped
 }

@@ -123,7 +123,7 @@ fn remaining_of(s: &[u32], scratch: &mut [u32], array: &mut [u32]) -> Result<Rem
     }
     let kept = lines::kept_range(&array[0..n], e);
     Ok(Remaining {
-        from: kept.from,
+        from: kept.start,
         end: kept.end,
         e,
     })

@@ -7,10 +7,10 @@ use Rattle.votes.specs.Votes.{Ahead}
 abbrev pub hit : ℕ → ℕ → ℕ → ℕ
 hit l s offset = cond (eqb (offset + s) l) 1 0
 
--- each of the first `width` entries of a row has v more
-pub record Added (width : ℕ) (v : ℕ → ℕ) (before after : List ℕ) : Type 0 where
+-- each entry of a row has v more
+pub record Added (v : ℕ → ℕ) (before after : List ℕ) : Type 0 where
   pub len : length after ≡ length before
-  pub at : (o : ℕ) → o < width → get_or after o 0 ≡ get_or before o 0 + v o
+  pub at : (o : ℕ) → o < length before → get_or after o 0 ≡ get_or before o 0 + v o
 
 -- x is one of `count` numbers from `from` on
 pub record OneOf (from count x : ℕ) : Type 0 where

@@ -7,11 +7,27 @@ ghost use Rattle.votes.specs.Votes.{max_pitch, min_pitch, votes_of_line, votes, 
 ghost use Rattle.votes.specs.Inner.{hit, Added, Block, Picks};
 
 // An offset with a pitch in quarters, and the votes that the pair gets.
-#[derive(Clone, Copy)]
+#[derive(Clone, Copy, Default)]
 pub struct Choice {
     pub votes: usize,
     pub offset: usize,
     pub quarter: usize,
+}
+
+impl Choice {
+    // Of two choices the one ahead, where the other has no smaller q.
+    fn ahead(self, other: Choice) -> Choice
+        requires { self.quarter ≤ other.quarter }
+        ensures { Picks (λ c. c ≡ other) self result }
+    {
+        if other.votes < self.votes {
+            return self;
+        }
+        if other.votes == self.votes && self.offset <= other.offset {
+            return self;
+        }
+        other
+    }
 }
 
 // The pitches that are searched: those within SPREAD of the estimate e, from SMALLEST to LARGEST.
@@ -24,88 +40,68 @@ const LARGEST: usize = 200;
 fn max_pitch(e: u32) -> usize
     ensures { result ≡ max_pitch e }
 {
-    let pitch = e as usize + SPREAD;
-    if pitch < LARGEST { pitch } else { LARGEST }
+    LARGEST.min(e as usize + SPREAD)
 }
 
 fn min_pitch(e: u32) -> usize
     ensures { result ≡ min_pitch e }
 {
-    let pitch = e as usize;
-    if pitch < SMALLEST + SPREAD {
-        SMALLEST
-    } else {
-        pitch - SPREAD
-    }
+    SMALLEST.max((e as usize).saturating_sub(SPREAD))
 }
 
 // The offset l - s gets a vote, where it is searched.
-fn vote(row: &mut [u32], width: usize, l: usize, s: usize)
-    requires { (width ≤ length row.old) × ((o : ℕ) → o < width → get_or row.old o 0 + hit l s o < 2 ^ 32) }
-    ensures { Added width (hit l s) row.old row.new }
+fn vote(row: &mut [u32], l: usize, s: usize)
+    requires { (o : ℕ) → o < length row.old → get_or row.old o 0 + hit l s o < 2 ^ 32 }
+    ensures { Added (hit l s) row.old row.new }
 {
     if s <= l {
         let o = l - s;
-        if o < width {
-            row[o] = row[o] + 1;
+        if o < row.len() {
+            row[o] += 1;
         }
     }
 }
 
 // The votes of a line with one q, for each n from `from` to before `end`.
-fn vote_line(row: &mut [u32], width: usize, l: usize, q: usize, from: usize, end: usize)
-    requires limits { (width ≤ length row.old) × (l ≤ 4095) × (q ≤ 800) × (end ≤ 512) }
-    requires no_overflow { (o : ℕ) → o < width → get_or row.old o 0 + votes_of_line l q o from (end - from) < 2 ^ 32 }
-    ensures { Added width (λ o. votes_of_line l q o from (end - from)) row.old row.new }
+#[tactic(auto, using(crate::proofs::Row::votes_of_line_more))]
+fn vote_line(row: &mut [u32], l: usize, q: usize, from: usize, end: usize)
+    requires limits { (l ≤ 4095) × (q ≤ 800) × (end ≤ 512) }
+    requires no_overflow { (o : ℕ) → o < length row.old → get_or row.old o 0 + votes_of_line l q o from (end - from) < 2 ^ 32 }
+    ensures { Added (λ o. votes_of_line l q o from (end - from)) row.old row.new }
 {
     for n in from..end {
         let s = n * q / 4;
-        vote(row, width, l, s);
-        vote(row, width, l + 1, s);
+        vote(row, l, s);
+        vote(row, l + 1, s);
     }
 }
 
 // The votes of all lines with one q.
-fn vote_lines(row: &mut [u32], width: usize, lines: &[u32], e: u32, q: usize)
-    requires limits { (width ≤ length row.old) × ((k : ℕ) → get_or lines.now k 0 ≤ 4095) × (q ≤ 800) }
-    requires no_overflow { (o : ℕ) → o < width → get_or row.old o 0 + votes e lines.now o q < 2 ^ 32 }
-    ensures { Added width (λ o. votes e lines.now o q) row.old row.new }
+fn vote_lines(row: &mut [u32], lines: &[u32], e: u32, q: usize)
+    requires limits { ((k : ℕ) → get_or lines.now k 0 ≤ 4095) × (q ≤ 800) }
+    requires no_overflow { (o : ℕ) → o < length row.old → get_or row.old o 0 + votes e lines.now o q < 2 ^ 32 }
+    ensures { Added (λ o. votes e lines.now o q) row.old row.new }
 {
-    for k in 0..lines.len() {
-        let l = lines[k] as usize;
-        vote_line(row, width, l, q, l / max_pitch(e), l / min_pitch(e) + 1);
+    for line in lines {
+        let l = *line as usize;
+        vote_line(row, l, q, l / max_pitch(e), l / min_pitch(e) + 1);
     }
 }
 
-// Of two choices the one ahead, where the second has no smaller q.
-fn ahead(best: Choice, votes: usize, offset: usize, quarter: usize) -> Choice
-    requires { best.quarter ≤ quarter }
-    ensures { Picks (Block (λ o q. votes) offset 1 quarter 1) best result }
+// Of the choices of a row, which all have the quarter q, and `best` the one ahead, where `best` has no larger q.
+fn best_in_row(row: &[u32], q: usize, best: Choice) -> Choice
+    requires { best.quarter ≤ q }
+    ensures { Picks (Block (λ o _. get_or row.now o 0) 0 (length row.now) q 1) best result }
 {
-    if votes < best.votes {
-        return best;
+    let mut best = best;
+    for (offset, votes) in row.iter().enumerate() {
+        best = best.ahead(Choice {
+            votes: *votes as usize,
+            offset,
+            quarter: q,
+        });
     }
-    if votes == best.votes {
-        if best.offset <= offset {
-            return best;
-        }
-    }
-    Choice {
-        votes,
-        offset,
-        quarter,
-    }
-}
-
-fn best_in_row(row: &[u32], width: usize, q: usize, best: Choice) -> Choice
-    requires { (width ≤ length row.now) × (best.quarter ≤ q) }
-    ensures { Picks (Block (λ o _. get_or row.now o 0) 0 width q 1) best result }
-{
-    let mut w = best;
-    for o in 0..width {
-        w = ahead(w, row[o] as usize, o, q);
-    }
-    w
+    best
 }
 
 // Offsets are searched up to 7 past the first line. The row is scratch: it holds their votes with one q at a time.
@@ -114,16 +110,12 @@ pub fn winner_of(lines: &[u32], e: u32, row: &mut [u32]) -> Choice
     requires room { get_or lines.now 0 0 + 8 ≤ length row.old }
     ensures { result ≡ winner e lines.now }
 {
-    let width = lines[0] as usize + 8;
-    let mut best = Choice {
-        votes: 0,
-        offset: 0,
-        quarter: 0,
-    };
-    for q in 4 * min_pitch(e)..4 * max_pitch(e) + 1 {
-        lists::clear_u32(row, width);
-        vote_lines(row, width, lines, e, q);
-        best = best_in_row(row, width, q, best);
+    let row = &mut row[..lines[0] as usize + 8];
+    let mut best = Choice::default();
+    for q in 4 * min_pitch(e)..=4 * max_pitch(e) {
+        row.fill(0);
+        vote_lines(row, lines, e, q);
+        best = best_in_row(row, q, best);
     }
     best
 }

@@ -82,6 +82,6 @@ pub returns : goal.returns
 returns c =
     let e = c.chosen_gap-e.result in
     let kept = c.kept_range-kept.result in
-    let left : Remains e (lines_of c.args.s.now) kept.from kept.end = rw (found-is c) at c.kept_range-kept.ensures in
+    let left : Remains e (lines_of c.args.s.now) kept.start kept.end = rw (found-is c) at c.kept_range-kept.ensures in
     standing c.args.s.now c.requires.0 c.find_lines-n.ensures.front left (e-is c)
     (some c) (omega (arith, c.if-e-ge-WIDE.false))
