@@ -12,7 +12,9 @@ use Rattle.lines.specs.Lines.{largest, lines_of, wide_gaps, estimate}
 use Rattle.lines.specs.Inner.{InLimits}
 use Rattle.reading.specs.declared.Reading.{Reading}
 use Rattle.std.specs.Prelude.{Result, Ok, Err}
-use Rattle.reading.specs.Reading.{remaining, accepted, gap_answer, quarters_of, pitched, line_answer, reading_of, line_of, answer_of, LineGives}
+use Rattle.reading.specs.declared.Gap.{Gap}
+use Rattle.reading.specs.declared.Gap.TheVariants.{Missing, Wide}
+use Rattle.reading.specs.Reading.{remaining, accepted, gap_answer, gap_number, quarters_of, pitched, line_answer, reading_of, line_of, answer_of, LineGives}
 
 -- ---- what the lines call for
 
@@ -35,6 +37,10 @@ module _ (s : List ℕ) where
   pub read_on : gap_answer (lines_of s) ≡ 0 → Ok (accepted (estimate (lines_of s)) (remaining s)) ≡ quarters_of s
   unfolding quarters_of
   read_on e = rw e
+
+pub gap_some : (g : Gap) → 0 < gap_number g
+gap_some Missing = omega arith
+gap_some Wide = omega arith
 
 -- the number of what a list reads as
 abbrev pub answer_in : Result (Reading ℕ) ℕ → ℕ
@@ -86,9 +92,9 @@ module _ (s : List ℕ) (room : ℕ) where
         ltb-false room (4 * length s) r,
       )
 
-  pub declined : {n : ℕ} → n ≡ line_answer s room → (n ≡ 0 → ⊥) → ◌≡◌ {A = Result (Reading Float) ℕ} (Err n) (reading_of s room)
+  pub declined : {n : ℕ} → n ≡ line_answer s room → 0 < n → ◌≡◌ {A = Result (Reading Float) ℕ} (Err n) (reading_of s room)
   unfolding reading_of
-  declined {n} e h = rw (← e, ne_eqb n 0 h)
+  declined {n} e h = rw (← e, ne_eqb n 0 (λ z. omega arith))
 
   pub taken : line_answer s room ≡ 0 → pitched (quarters_of s) ≡ reading_of s room
   unfolding reading_of

@@ -113,15 +113,15 @@ fn remaining_of(s: &[u32], scratch: &mut [u32], array: &mut [u32]) -> Result<Rem
     ensures { RemainingGives s.now result array.new }
 {
     let n = lines::find_lines(s, scratch, array);
-    let m = lines::wide_gaps(&array[0..n], scratch);
+    let m = lines::wide_gaps(&array[..n], scratch);
     if m == 0 {
         return Err(Gap::Missing);
     }
-    let e = lines::chosen_gap(&scratch[0..m]);
+    let e = lines::chosen_gap(&scratch[..m]);
     if e >= WIDE {
         return Err(Gap::Wide);
     }
-    let kept = lines::kept_range(&array[0..n], e);
+    let kept = lines::kept_range(&array[..n], e);
     Ok(Remaining {
         from: kept.start,
         end: kept.end,

@@ -1,42 +1,57 @@
--- `reading::get_line` meets its contract: an answer other than 0 declines, and 0 shows what the reading asks for.
-use Prim.Native.Nat.{◌*◌, ◌≤◌}
-use mathlib.Core.Path.{refl, sym, ◌∙◌}
-use native.Mathlib.Omega.{arith}
-use lib.ListN.{length, length-take}
+use Rattle.std.proofs.Common.{◌≡◌, ◌∙◌, ◌*◌, Err, Ok, length, refl, sym, ap, arith, rules}
 use lib.Seq.{drop_at, length-take-le}
-use Rattle.lines.specs.Inner.{InLimits}
+use Rattle.refusal.specs.Refusal.{number, numbered}
+use Rattle.refusal.proofs.Numbers.{number_some}
+use Rattle.reading.specs.Reading.{gap_number, pitched}
 use Rattle.reading.proofs.Answers.{line_fit, declined, taken, line_gives}
 use Rattle.reading.proofs.Laws.{quarters_pitched}
-use borrow.Author.Rules.{rules}
 use Rattle.reading.proofs.get_line.Goals as goal
 
-fits : (c : goal.Else-answer-ne0)
-    → InLimits c.args.list.now × (4 * length c.args.list.now ≤ length c.args.scratch.now)
-fits c = line_fit c.args.list.now (length c.args.scratch.now) (sym c.line_answer-answer.ensures ∙ c.if-answer-ne0.false)
+pub returns-in_err-check-clause-reads : goal.returns-in_err-check-clause-reads
+returns-in_err-check-clause-reads c =
+    let refusal = c.in_err-check.field-0.0 in
+    let is : c.from_residual.result ≡ Err refusal = search rules in
+    rw is (declined c.args.list.now (length c.args.scratch.now) c.in_err-check.ensures (number_some refusal))
 
-pub returns-then-answer-ne0 : goal.returns-then-answer-ne0
-returns-then-answer-ne0 c =
-    let a = c.args in
-    let e = declined a.list.now (length a.scratch.now) c.line_answer-answer.ensures c.if-answer-ne0.true in
-    (e, line_gives a.list.now a.scratch.now e refl)
+pub returns-in_err-check-clause-gives : goal.returns-in_err-check-clause-gives
+returns-in_err-check-clause-gives c =
+    let refusal = c.in_err-check.field-0.0 in
+    let is : c.from_residual.result ≡ Err refusal = search rules in
+    rw is
+    (line_gives c.args.list.now c.args.scratch.now
+    (declined c.args.list.now (length c.args.scratch.now) c.in_err-check.ensures (number_some refusal))
+    refl)
 
-pub slice_bounds-quarters_of-end : goal.slice_bounds-quarters_of-end
-slice_bounds-quarters_of-end c = omega (arith, (fits c).1)
+pub returns-in_err-read-clause-reads : goal.returns-in_err-read-clause-reads
+returns-in_err-read-clause-reads c =
+    let gap = c.in_err-read.field-0.0 in
+    let is : numbered number c.from_residual-in_err-read.result ≡ Err (gap_number gap) = search rules in
+    is ∙ ap pitched c.in_err-read.ensures ∙ taken c.args.list.now (length c.args.scratch.now) (search rules)
 
-pub slice_bounds-quarters_of-end-2 : goal.slice_bounds-quarters_of-end-2
-slice_bounds-quarters_of-end-2 c = sym (length-take-le _ _ (omega (arith, (fits c).1)))
+pub returns-in_err-read-clause-gives : goal.returns-in_err-read-clause-gives
+returns-in_err-read-clause-gives c =
+    let list = c.args.list.now in
+    let room = length c.args.scratch.now in
+    let gap = c.in_err-read.field-0.0 in
+    let is : numbered number c.from_residual-in_err-read.result ≡ Err (gap_number gap) = search rules in
+    let fits = line_fit list room (search rules) in
+    line_gives list c.args.scratch.now (is ∙ ap pitched c.in_err-read.ensures ∙ taken list room (search rules))
+    (drop_at c.quarters_of.new.scratch _ _ (c.quarters_of.auto.scratch ∙ length-take-le _ _ fits.1))
 
-pub quarters_of-requires : goal.quarters_of-requires
-quarters_of-requires c = ((fits c).0, simp length-take (omega (arith, (fits c).1)))
+pub pitch_of-requires : goal.pitch_of-requires
+pitch_of-requires c =
+    let fits = line_fit c.args.list.now (length c.args.scratch.now) (search rules) in
+    rw (sym c.in_ok-read.ensures) at (quarters_pitched c.args.list.now fits.0)
 
-pub pitched_of-requires : goal.pitched_of-requires
-pitched_of-requires c =
-    rw c.quarters_of.ensures (quarters_pitched _ (fits c).0)
+pub returns-clause-reads : goal.returns-clause-reads
+returns-clause-reads c =
+    rw c.pitch_of.ensures (ap pitched c.in_ok-read.ensures ∙ taken c.args.list.now (length c.args.scratch.now) (search rules))
 
-pub returns : goal.returns
-returns c =
-    let a = c.args in
-    let zero = sym c.line_answer-answer.ensures ∙ c.if-answer-ne0.false in
-    let e = (rw c.quarters_of.ensures at c.pitched_of.ensures) ∙ taken a.list.now (length a.scratch.now) zero in
-    let kept = drop_at c.quarters_of.new.scratch _ _ (c.quarters_of.auto.scratch ∙ length-take-le _ _ (fits c).1) in
-    (e, line_gives a.list.now a.scratch.now e kept)
+pub returns-clause-gives : goal.returns-clause-gives
+returns-clause-gives c =
+    let list = c.args.list.now in
+    let room = length c.args.scratch.now in
+    let fits = line_fit list room (search rules) in
+    rw c.pitch_of.ensures
+    (line_gives list c.args.scratch.now (ap pitched c.in_ok-read.ensures ∙ taken list room (search rules))
+    (drop_at c.quarters_of.new.scratch _ _ (c.quarters_of.auto.scratch ∙ length-take-le _ _ fits.1)))

@@ -15,4 +15,4 @@ loop-i-preserved c =
 pub returns : goal.returns
 returns c =
     let s = c.args.self.now.values.now in
-    smooth_ended s (rw (take-length s) at c.copy_u32.ensures) c.loop-i.invariant.front (omega arith) (omega arith) (omega arith)
+    smooth_ended s (rw (take-length s) at c.copy_front.ensures) c.loop-i.invariant.front (omega arith) (omega arith) (omega arith)
