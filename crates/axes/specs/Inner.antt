@@ -1,13 +1,13 @@
 -- For the code alone: both axes of an edge picture over some bounds, what their scores and readings ask and leave. No contract of an
 -- entry point reaches these.
-use Rattle.std.specs.Prelude.{ℕ, ◌+◌, ◌-◌, ◌*◌, ◌≤◌, Bool, ◌≡◌, List, ◌++◌}
+use Rattle.std.specs.Prelude.{ℕ, ◌+◌, ◌-◌, ◌*◌, ◌≤◌, Bool, ◌≡◌, List, ◌++◌, Result, Ok, Err}
 use Rattle.lists.specs.Front.{AtFront}
 use Rattle.board.specs.declared.Bounds.{Bounds}
 use Rattle.strips.specs.Strip.{column_scores, row_scores}
 use Rattle.strips.specs.Inner.{place_count}
-use Rattle.reading.specs.declared.Quarters.{Quarters}
-use Rattle.reading.specs.declared.Quarters.TheVariants.{Read, Refused}
-use Rattle.reading.specs.Reading.{quarters_of}
+use Rattle.refusal.specs.Refusal.{numbered}
+use Rattle.reading.specs.declared.Reading.{Reading}
+use Rattle.reading.specs.Reading.{gap_number, quarters_of}
 use Rattle.axes.specs.declared.Readings.{Readings}
 
 -- how many scores both axes have
@@ -22,11 +22,11 @@ pub record RoomFor (b : Bounds) (scores turned words : ℕ) : Type 0 where
 
 -- column scores, then row scores, at the front of the score slice, and what each list reads as
 pub record ReadsAxes (E : ℕ → ℕ → Bool) (b : Bounds) (before : List ℕ) (r : Readings) (after : List ℕ) : Type 0 where
-  pub columns_are : r.columns ≡ quarters_of (column_scores E b)
-  pub rows_are : r.rows ≡ quarters_of (row_scores E b)
+  pub columns_are : numbered gap_number r.columns ≡ quarters_of (column_scores E b)
+  pub rows_are : numbered gap_number r.rows ≡ quarters_of (row_scores E b)
   pub scores_are : AtFront (column_scores E b ++ row_scores E b) before after
 
--- a reading whose numbers fit 32 bits; a refusal is 6 or 7
-abbrev pub Fits32 : Quarters → Type 0
-Fits32 (Read q offset count votes) = (q ≤ 800) × (votes ≤ 4194304)
-Fits32 (Refused n) = (6 ≤ n) × (n ≤ 7)
+-- a reading whose numbers fit 32 bits
+abbrev pub Fits32 : Result (Reading ℕ) ℕ → Type 0
+Fits32 (Ok r) = (r.pitch ≤ 800) × (r.votes ≤ 4194304)
+Fits32 (Err n) = Unit

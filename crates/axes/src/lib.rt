@@ -11,13 +11,13 @@ ghost use Rattle.strips.specs.Inner.{place_count, Scorable};
 ghost use Rattle.axes.specs.Inner.{both_counts, RoomFor, ReadsAxes};
 
 use board::Bounds;
-use reading::Quarters;
+use reading::{Gap, Reading};
 
 // What the columns and the rows read as.
 #[derive(Clone, Copy)]
 pub struct Readings {
-    pub columns: Quarters,
-    pub rows: Quarters,
+    pub columns: Result<Reading<usize>, Gap>,
+    pub rows: Result<Reading<usize>, Gap>,
 }
 
 // Column scores, then row scores, to the front of `scores`. `turned` is scratch.
@@ -49,8 +49,5 @@ pub fn read_axes(
     let end = across + strips::place_count(b.r_1, b.r_2);
     let columns = reading::quarters_of(&scores[..across], words);
     let rows = reading::quarters_of(&scores[across..end], words);
-    Readings {
-        columns: columns,
-        rows: rows,
-    }
+    Readings { columns, rows }
 }
