@@ -1,53 +1,56 @@
--- The blocks of neighbouring points, gathered point by point and row by row. Assumes nothing.
-use Prim.Native.Nat.{ℕ, ◌+◌, ◌*◌, ◌≤◌, ◌<◌}
-use mathlib.Core.Path.{◌≡◌, refl, ap, ◌∙◌}
+-- The blocks of neighbouring points, gathered value by value. Assumes nothing.
+use Prim.Native.Nat.{ℕ, ◌+◌, ◌*◌, ◌/◌, ◌%◌, ◌≤◌, ◌<◌}
+use mathlib.Core.Path.{◌≡◌, ap, sym, ◌∙◌}
 use mathlib.Core.List.{List}
 use mathlib.Core.Logic.{⊎_elim}
-use native.Mathlib.Nat.{eq-or-lt_of_le}
+use native.Mathlib.Nat.{eq-or-lt_of_le, mul-le-mul}
 use native.Mathlib.Omega.{arith}
-use lib.Arith.{digits_lt}
+use lib.Arith.{digits_lt, digits_div, digits_mod}
 use lib.Ieee.{Float, nan}
 use lib.ListN.{length, get_or, set, length-set}
 use lib.Seq.{get_or-set_same, get_or-set_other}
-use Rattle.select.specs.Inner.{list_count}
-use Rattle.narrow.specs.Inner.{Fetched, GatheredRow, Gathered}
+use Rattle.select.specs.Inner.{list_count, list_of}
+use Rattle.board.specs.Board.{most_factor}
+use Rattle.board.specs.Inner.{FactorIn}
+use Rattle.narrow.specs.Inner.{Gathered}
 
-pub fetched_none : {from to : ℕ} {planes x : List Float} → Fetched 0 from to planes x x
-fetched_none = record { len = refl; here = λ v b. absurd (omega arith); rest = λ k b. refl }
+-- the first t values stand in the lists, counted row by row, and in a row point by point
+pub record Gathering (t f m width at : ℕ) (planes x : List Float) : Type 0 where
+  pub long : length x ≡ most_factor * most_factor * list_count
+  pub here : (u v l : ℕ) → u < f → v < f → l < m → (u * m + l) * f + v < t
+      → list_of x l (u * f + v) ≡ get_or planes (at + u * width + l * f + v) nan
 
-pub fetched_more : {n from to : ℕ} {planes d x : List Float} → Fetched n from to planes d x → to + n * list_count < length d
-    → Fetched (n + 1) from to planes d (set x (to + n * list_count) (get_or planes (from + n) nan))
-fetched_more {n} {from} {to} {planes} {d} {x} g r =
-    let at = to + n * list_count in
-    let y = get_or planes (from + n) nan in
-    record {
-      len = length-set x at y ∙ g.len;
-      here = λ v b.
-          ⊎_elim (λ (e : v ≡ n). rw e (get_or-set_same x at y nan (omega (arith, g.len))))
-          (λ (e : v < n). get_or-set_other x at (to + v * list_count) y nan (λ q. let z : ⊥ = omega (arith, q) in z) ∙ g.here v e)
-          (eq-or-lt_of_le {n = v} {m = n} (omega arith));
-      rest = λ k h. get_or-set_other x at k y nan (h n (omega arith)) ∙ g.rest k (λ v b. h v (omega arith));
-    }
+-- two digits tell the number
+digits_same : {n a b c d : ℕ} → b < n → d < n → a * n + b ≡ c * n + d → (a ≡ c) × (b ≡ d)
+digits_same {n} {a} {b} {c} {d} p q e =
+    (
+      sym (digits_div a p) ∙ ap (λ (k : ℕ). k / n) e ∙ digits_div c q,
+      sym (digits_mod a p) ∙ ap (λ (k : ℕ). k % n) e ∙ digits_mod c q,
+    )
 
-pub row_none : {f from to : ℕ} {planes x : List Float} → GatheredRow f 0 from to planes x x
-row_none = record { len = refl; kept = λ k b. refl; here = λ v l a b. absurd (omega arith) }
+pub gathered_more : {f m width at : ℕ} (u v l : ℕ) {planes x : List Float} → Gathering ((u * m + l) * f + v) f m width at planes x →
+    FactorIn f → m ≤ list_count → u < f → v < f → l < m
+    → Gathering ((u * m + l) * f + (v + 1)) f m width at planes
+    (set x ((u * f + v) * list_count + l) (get_or planes (at + u * width + l * f + v) nan))
+gathered_more {f} {m} {width} {at} u v l {planes} {x} G F M U V L =
+    record { long = length-set x _ _ ∙ G.long; here = λ u' v' l' a b c d.
+        let y = get_or planes (at + u * width + l * f + v) nan in
+        ⊎_elim (λ (e : (u' * m + l') * f + v' ≡ (u * m + l) * f + v).
+            let p = digits_same b V e in
+            let q = digits_same c L p.0 in
+            rw (q.0, q.1, p.1) (get_or-set_same x ((u * f + v) * list_count + l) y nan (omega (arith, digits_lt U V, mul-le-mul F.high F.high, G.long))))
+        (λ (e : (u' * m + l') * f + v' < (u * m + l) * f + v).
+            get_or-set_other x ((u * f + v) * list_count + l) ((u' * f + v') * list_count + l') y nan
+            (λ z.
+                let k : u' * f + v' ≡ u * f + v = omega (arith, z) in
+                let q = digits_same b V k in
+                let s : l' ≡ l = omega (arith, z) in
+                let r : (u' * m + l') * f + v' ≡ (u * m + l) * f + v = rw (q.0, q.1, s) in
+                let bad : ⊥ = omega arith in
+                bad)
+            ∙ G.here u' v' l' a b c e)
+        (eq-or-lt_of_le {n = (u' * m + l') * f + v'} {m = (u * m + l) * f + v} (omega arith)) }
 
--- the lists of other points are not touched: places of one list are a multiple of their number apart
-pub row_more : {f m from to : ℕ} {planes d x x' : List Float} → m < list_count → GatheredRow f m from to planes d x
-    → Fetched f (from + m * f) (to + m) planes x x' → GatheredRow f (m + 1) from to planes d x'
-row_more {f} {m} {from} {to} {planes} {d} {x} {x'} h g w =
-    record {
-      len = w.len ∙ g.len;
-      kept = λ k b. w.rest k (λ v c q. let z : ⊥ = omega (arith, q) in z) ∙ g.kept k b;
-      here = λ v l b c.
-          ⊎_elim (λ (e : l ≡ m). rw e (ap (λ (k : ℕ). get_or x' k nan) (omega arith) ∙ w.here v b))
-          (λ (e : l < m). w.rest (to + v * list_count + l) (λ q a p. let z : ⊥ = omega (arith, p) in z) ∙ g.here v l b e)
-          (eq-or-lt_of_le {n = l} {m = m} (omega arith));
-    }
-
-pub rows_more : {n f m : ℕ} (width at : ℕ) {planes x x' : List Float} → m ≤ list_count → Gathered n f m width at planes x →
-    GatheredRow f m (at + n * width) (n * f * list_count) planes x x' → Gathered (n + 1) f m width at planes x'
-rows_more {n} {f} {m} width at {planes} {x} {x'} h g r u v l a b c =
-    ⊎_elim (λ (e : u ≡ n). rw e (ap (λ (k : ℕ). get_or x' k nan) (omega arith) ∙ r.here v l b c))
-    (λ (e : u < n). r.kept ((u * f + v) * list_count + l) (omega (arith, digits_lt e b)) ∙ g u v l e b c)
-    (eq-or-lt_of_le {n = u} {m = n} (omega arith))
+pub gathered_all : {f m width at u : ℕ} {planes x : List Float} → Gathering (u * m * f) f m width at planes x → f ≤ u
+    → Gathered f m width at planes x
+gathered_all G end = record { here = λ i v l a b c. G.here i v l a b c (digits_lt (digits_lt (omega arith) c) b) }

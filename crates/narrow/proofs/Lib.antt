@@ -1,5 +1,5 @@
 pub mod Block
-pub mod Clearing
 pub mod Gathering
+pub mod Clearing
 pub mod Laws
 pub mod Packed

@@ -3,8 +3,16 @@
 use Rattle.std.specs.Prelude.{ℕ, ◌+◌, ◌*◌, ◌≤◌, ◌<◌, ◌≢◌, ◌≡◌, List, Float, length, get_or}
 use Rattle.std.specs.Float.{nan}
 use Rattle.lists.specs.Tab.{tab}
+use Rattle.binary32.specs.Inner.{IsUnit}
 use Rattle.select.specs.Inner.{list_count, list_of}
 use Rattle.board.specs.Screen.{Screen}
+use Rattle.board.specs.Inner.{SidesIn}
+
+-- sides within the limits, and planes of units
+pub record UnitPlanes (h w : ℕ) (planes : List Float) : Type 0 where
+  pub sides : SidesIn 0 h w
+  pub there : 3 * (h * w) ≤ length planes
+  pub units : (q : ℕ) → q < 3 * (h * w) → IsUnit (get_or planes q nan)
 
 -- row i of plane k
 abbrev pub row_of : Screen → ℕ → ℕ → List Float
@@ -14,23 +22,18 @@ row_of s k i = tab s.width (s.px k i)
 abbrev pub run : Screen → ℕ → ℕ → ℕ → ℕ → List Float
 run s k i j m = tab m (λ l. s.px k i (j + l))
 
+-- those points are there, and there is a list for each
+pub record PointsIn (height width k i j m : ℕ) : Type 0 where
+  pub plane : k < 3
+  pub row : i < height
+  pub some : 0 < m
+  pub few : m ≤ list_count
+  pub columns : j + m ≤ width
+
 -- all rows of the blocks are there, the first value at `at`
 abbrev pub Reached : ℕ → ℕ → ℕ → ℕ → List Float → Type 0
 Reached f m width at planes = (u : ℕ) → u < f → at + u * width + m * f ≤ length planes
 
--- n values of one block's row stand from `to` on, each in its own place of a list; the rest is as it was
-pub record Fetched (n from to : ℕ) (planes before after : List Float) : Type 0 where
-  pub len : length after ≡ length before
-  pub here : (v : ℕ) → v < n → get_or after (to + v * list_count) nan ≡ get_or planes (from + v) nan
-  pub rest : (k : ℕ) → ((v : ℕ) → v < n → k ≢ to + v * list_count) → get_or after k nan ≡ get_or before k nan
-
--- one row of the blocks stands from `to` on; what is before is as it was
-pub record GatheredRow (f m from to : ℕ) (planes before after : List Float) : Type 0 where
-  pub len : length after ≡ length before
-  pub kept : (k : ℕ) → k < to → get_or after k nan ≡ get_or before k nan
-  pub here : (v l : ℕ) → v < f → l < m → get_or after (to + v * list_count + l) nan ≡ get_or planes (from + l * f + v) nan
-
--- n rows of the blocks stand in the lists, those of point l in list l
-abbrev pub Gathered : ℕ → ℕ → ℕ → ℕ → ℕ → List Float → List Float → Type 0
-Gathered n f m width at planes x =
-    (u v l : ℕ) → u < n → v < f → l < m → list_of x l (u * f + v) ≡ get_or planes (at + u * width + l * f + v) nan
+-- the blocks of m points stand in the lists, those of point l in list l
+pub record Gathered (f m width at : ℕ) (planes x : List Float) : Type 0 where
+  pub here : (u v l : ℕ) → u < f → v < f → l < m → list_of x l (u * f + v) ≡ get_or planes (at + u * width + l * f + v) nan

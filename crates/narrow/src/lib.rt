@@ -4,7 +4,7 @@
 // points of a row are picked from at once, a list each (crate select).
 #![tactic(auto)]
 
-ghost use Rattle.std.specs.Prelude.{◌≡◌, min, ◌+◌, ◌*◌, ◌/◌, ◌<◌, ◌≤◌, length, drop, replicate};
+ghost use Rattle.std.specs.Prelude.{◌≡◌, ◌+◌, ◌*◌, ◌/◌, ◌<◌, ◌≤◌, length, drop, replicate};
 ghost use Rattle.std.specs.Float.{binary32};
 ghost use Rattle.std.specs.Float.Ieee.{of_bits};
 ghost use Rattle.lists.specs.Front.{AtFront};
@@ -14,148 +14,144 @@ ghost use Rattle.board.specs.Screen.{view, packed};
 ghost use Rattle.board.specs.Inner.{FactorIn, FitPlanes};
 ghost use Rattle.narrow.specs.Narrow as Spec;
 ghost use Rattle.narrow.specs.Narrow.{narrowed};
-ghost use Rattle.narrow.specs.Inner.{row_of, run, Fetched, Reached, Gathered, GatheredRow};
+ghost use Rattle.narrow.specs.Inner.{row_of, run, UnitPlanes, PointsIn, Reached, Gathered};
 
-use board::Board;
+use board::{Board, Factor};
 use select::LIST_COUNT;
 
 // Room for the largest blocks.
 const ROOM: usize = Board::MOST_FACTOR * Board::MOST_FACTOR * LIST_COUNT;
 
-// The values of one block's row, each to its place in the list of its point.
-fn fetch(planes: &[f32], from: usize, f: usize, x: &mut [f32], to: usize)
-    requires { (from + f ≤ length planes.now) × (to + f * list_count < length x.old + list_count) }
-    ensures { Fetched f from to planes.now x.old x.new }
+// The blocks of m neighbouring points, the first value at `at`: a list each, and nothing is said of the lists beyond. The factor is a
+// constant, so that the compiler takes the values of neighbouring points apart several at a time.
+fn gather_by<const F: usize>(
+    planes: &[f32],
+    at: usize,
+    width: usize,
+    m: usize,
+    x: &mut [f32; ROOM],
+)
+    requires { FactorIn F × Reached F m width at planes.now × (m ≤ list_count) }
+    ensures { Gathered F m width at planes.now x.new }
 {
-    for v in 0..f {
-        x[to + v * LIST_COUNT] = planes[from + v];
-    }
-}
-
-// One row of the blocks of m points, which lie side by side.
-fn gather_row(planes: &[f32], from: usize, f: usize, m: usize, x: &mut [f32], to: usize)
-    requires { (from + m * f ≤ length planes.now) × (m ≤ list_count) × (to + f * list_count ≤ length x.old) }
-    ensures { GatheredRow f m from to planes.now x.old x.new }
-{
-    for l in 0..m {
-        fetch(planes, from + l * f, f, x, to + l);
-    }
-}
-
-// The blocks of m points, row by row: a list each, and nothing is said of the lists beyond.
-fn gather(f: usize, planes: &[f32], at: usize, width: usize, m: usize, x: &mut [f32])
-    requires { Reached f m width at planes.now × (m ≤ list_count) × (f * f * list_count ≤ length x.old) }
-    ensures { Gathered f f m width at planes.now x.new }
-{
-    for u in 0..f {
-        gather_row(planes, at + u * width, f, m, x, u * f * LIST_COUNT);
-    }
-}
-
-// The same: the loop is unrolled, and where the factor is a constant, the compiler takes the values of neighbouring points apart several
-// at a time.
-fn gather_known(f: usize, planes: &[f32], at: usize, width: usize, m: usize, x: &mut [f32])
-    requires { FactorIn f × Reached f m width at planes.now × (m ≤ list_count) × (f * f * list_count ≤ length x.old) }
-    ensures { Gathered f f m width at planes.now x.new }
-{
-    for k in Board::LEAST_FACTOR..Board::MOST_FACTOR + 1 {
-        if k == f {
-            gather(k, planes, at, width, m, x);
+    for u in 0..F {
+        for l in 0..m {
+            for v in 0..F {
+                x[(u * F + v) * LIST_COUNT + l] = planes[at + u * width + l * F + v];
+            }
         }
     }
 }
 
-// The m points from j on of row i of narrowed plane k.
-fn group(
-    f: usize,
+// Planes of units, seen as blocks of `factor` by `factor` values.
+#[derive(Clone, Copy)]
+struct Blocks<'a> {
+    factor: Factor,
     height: usize,
     width: usize,
-    planes: &[f32],
-    k: usize,
-    i: usize,
-    j: usize,
-    m: usize,
-    x: &mut [f32],
-    out: &mut [f32],
-)
-    requires fit { FitPlanes 0 height width planes.now × FactorIn f × (k < 3) × (i < height / f) × (j + m ≤ width / f) }
-    requires room { (0 < m) × (m ≤ list_count) × (f * f * list_count ≤ length x.old) × (width / f ≤ length out.old) }
-    ensures { Placed (run (narrowed f (view height width planes.now)) k i j m) j out.old out.new }
-{
-    let at = k * (height * width) + (i * f * width + j * f);
-    gather_known(f, planes, at, width, m, x);
-    select::medians(f * f, x, m, out, j);
+    planes: &'a [f32],
+    ghost fit: { UnitPlanes height width planes.now },
 }
 
-// How many of n points are taken at once.
-fn group_size(n: usize) -> usize
-    ensures { result ≡ min list_count n }
-{
-    if n < LIST_COUNT { n } else { LIST_COUNT }
-}
+impl Blocks<'_> {
+    fn gather(&self, at: usize, m: usize, x: &mut [f32; ROOM])
+        requires { Reached self.now.factor.value m self.now.width at self.now.planes.now × (m ≤ list_count) }
+        ensures { Gathered self.now.factor.value m self.now.width at self.now.planes.now x.new }
+    {
+        match self.factor.value {
+            2 => gather_by::<2>(self.planes, at, self.width, m, x),
+            3 => gather_by::<3>(self.planes, at, self.width, m, x),
+            4 => gather_by::<4>(self.planes, at, self.width, m, x),
+            _ => gather_by::<5>(self.planes, at, self.width, m, x),
+        }
+    }
 
-// Row i of narrowed plane k.
-fn narrow_row(
-    f: usize,
-    height: usize,
-    width: usize,
-    planes: &[f32],
-    k: usize,
-    i: usize,
-    x: &mut [f32],
-    out: &mut [f32],
-)
-    requires fit { FitPlanes 0 height width planes.now × FactorIn f × (k < 3) × (i < height / f) }
-    requires room { (f * f * list_count ≤ length x.old) × (width / f ≤ length out.old) }
-    ensures { AtFront (row_of (narrowed f (view height width planes.now)) k i) out.old out.new }
-{
-    let columns = width / f;
-    let mut j = 0;
-    while j < columns {
-        let m = group_size(columns - j);
-        group(f, height, width, planes, k, i, j, m, x, out);
-        j = j + m;
+    // The m points from j on of row i of narrowed plane k.
+    #[tactic(auto, using(crate::proofs::Block::reached, crate::proofs::Block::medians_are))]
+    fn group(
+        &self,
+        k: usize,
+        i: usize,
+        j: usize,
+        m: usize,
+        x: &mut [f32; ROOM],
+        out: &mut [f32],
+    )
+        requires points_in { let f = self.now.factor.value in PointsIn (self.now.height / f) (self.now.width / f) k i j m }
+        requires room { self.now.width / self.now.factor.value ≤ length out.old }
+        ensures { let s = view self.now.height self.now.width self.now.planes.now in
+            Placed (run (narrowed self.now.factor.value s) k i j m) j out.old out.new }
+    {
+        let f = self.factor.value;
+        let at = k * (self.height * self.width) + (i * f * self.width + j * f);
+        self.gather(at, m, x);
+        select::medians(f * f, x, m, out, j);
+    }
+
+    // Row i of narrowed plane k, so many points at once as there are lists.
+    fn row(&self, k: usize, i: usize, x: &mut [f32; ROOM], out: &mut [f32])
+        requires row_in { (k < 3) × (i < self.now.height / self.now.factor.value) }
+        requires room { self.now.width / self.now.factor.value ≤ length out.old }
+        ensures { let s = view self.now.height self.now.width self.now.planes.now in
+            AtFront (row_of (narrowed self.now.factor.value s) k i) out.old out.new }
+    {
+        let columns = self.width / self.factor.value;
+        for j in (0..columns).step_by(LIST_COUNT) {
+            let m = LIST_COUNT.min(columns - j);
+            self.group(k, i, j, m, x, out);
+        }
     }
 }
 
 // The narrowed planes, one after another, row by row. Rows of the planes are cleared once they were read, while the processor has them
 // at hand: clearing in a pass of its own would fetch them again. Where rows are left over, what is cleared lags behind what was read.
-fn narrow_planes(f: usize, height: usize, width: usize, planes: &mut [f32], out: &mut [f32])
-    requires { FitPlanes 0 height width planes.old × FactorIn f × (height * width ≤ length out.old) }
-    ensures front { AtFront (packed (narrowed f (view height width planes.old))) out.old out.new }
+fn narrow_planes(
+    factor: Factor,
+    height: usize,
+    width: usize,
+    planes: &mut [f32],
+    out: &mut [f32],
+)
+    requires { FitPlanes 0 height width planes.old × (height * width ≤ length out.old) }
+    ensures front { AtFront (packed (narrowed factor.value (view height width planes.old))) out.old out.new }
     ensures cleared { AtFront (replicate (3 * (height * width)) (of_bits binary32 0)) planes.old planes.new }
 {
+    let f = factor.value;
     let rows = height / f;
     let columns = width / f;
     let band = f * width;
-    let mut x: [f32; ROOM] = [0.0; ROOM];
+    let mut x = [0.0f32; ROOM];
     for r in 0..3 * rows {
-        let from = r * columns;
-        narrow_row(
-            f,
+        let blocks = Blocks {
+            factor,
             height,
             width,
-            planes,
-            r / rows,
-            r % rows,
-            &mut x,
-            &mut out[from..],
-        );
+            planes: &planes[..],
+        };
+        let from = r * columns;
+        blocks.row(r / rows, r % rows, &mut x, &mut out[from..]);
         let at = r * band;
-        lists::clear_f32(&mut planes[at..], band);
+        lists::clear_front(&mut planes[at..], band);
     }
     let cleared = 3 * rows * band;
     let rest = 3 * (height * width) - cleared;
-    lists::clear_f32(&mut planes[cleared..], rest);
+    lists::clear_front(&mut planes[cleared..], rest);
 }
 
-// Narrows the planes by f. The first height · width entries of `scratch` are free afterwards.
-pub fn narrow(f: usize, height: usize, width: usize, planes: &mut [f32], scratch: &mut [f32])
-    requires { FitPlanes 0 height width planes.old × FactorIn f × (height * width ≤ length scratch.old) }
-    ensures planes_after { planes.new ≡ Spec.narrow f height width planes.old }
+// Narrows the planes by the factor. The first height · width entries of `scratch` are free afterwards.
+pub fn narrow(
+    factor: Factor,
+    height: usize,
+    width: usize,
+    planes: &mut [f32],
+    scratch: &mut [f32],
+)
+    requires { FitPlanes 0 height width planes.old × (height * width ≤ length scratch.old) }
+    ensures planes_after { planes.new ≡ Spec.narrow factor.value height width planes.old }
     ensures scratch_unchanged { drop (height * width) scratch.new ≡ drop (height * width) scratch.old }
 {
-    narrow_planes(f, height, width, planes, scratch);
+    narrow_planes(factor, height, width, planes, scratch);
+    let f = factor.value;
     let n = 3 * (height / f * (width / f));
-    lists::copy_f32(scratch, n, planes);
+    lists::copy_front(scratch, n, planes);
 }

@@ -5,12 +5,12 @@
 ghost use Rattle.std.specs.Prelude.{◌≡◌, ◌*◌, ◌≤◌, false, ◌&&◌, ltb, length};
 ghost use Rattle.lists.specs.Front.{AtFront};
 ghost use Rattle.board.specs.Board.{least_plane_side, least_located};
-ghost use Rattle.board.specs.Inner.{FactorIn, FitPlanes};
+ghost use Rattle.board.specs.Inner.{FitPlanes};
 ghost use Rattle.narrowings.specs.Loop as Spec;
 ghost use Rattle.narrowings.specs.Loop.{edges_at, last_of};
 ghost use Rattle.narrowings.specs.Inner.{Looks, Narrows};
 
-use board::Bounds;
+use board::{Bounds, Factor};
 
 // Row or column of a screen that is too small is at most this.
 const SMALL: usize = 64;
@@ -75,20 +75,20 @@ fn look(height: usize, width: usize, narrowed: u32, planes: &[f32], scratch: &mu
 
 // Narrows the screen by the factor until both spans of its bounds are large enough, or until it is too small. `start` is a look at the
 // screen as it is, whose gradients stand at the front of `scratch`; afterwards those of the last picture stand there.
-fn narrow_on(factor: usize, start: Narrowed, planes: &mut [f32], scratch: &mut [f32]) -> Narrowed
-    requires fit { FactorIn factor × FitPlanes (least_located factor) start.height start.width planes.old }
+fn narrow_on(factor: Factor, start: Narrowed, planes: &mut [f32], scratch: &mut [f32]) -> Narrowed
+    requires fit { FitPlanes (least_located factor.value) start.height start.width planes.old }
     requires first { (start.narrowed ≡ 0) × (start.small ≡ false) }
     requires looks { Looks start.height start.width planes.old start.threshold start.bounds scratch.old }
     requires room { start.height * start.width ≤ length scratch.old }
-    ensures { let last = last_of factor start.height start.width planes.old in
+    ensures { let last = last_of factor.value start.height start.width planes.old in
         Narrows start.height start.width last result planes.new scratch.new }
 {
     let mut last = start;
     while last.is_thin() {
         narrow::narrow(factor, last.height, last.width, planes, scratch);
         last = look(
-            last.height / factor,
-            last.width / factor,
+            last.height / factor.value,
+            last.width / factor.value,
             last.narrowed + 1,
             planes,
             scratch,
@@ -102,16 +102,16 @@ fn narrow_on(factor: usize, start: Narrowed, planes: &mut [f32], scratch: &mut [
 
 // The last picture. Its edge picture is drawn to the front of `edges`, once and when the loop has ended: nothing else is written there.
 pub fn last_picture(
-    factor: usize,
+    factor: Factor,
     height: usize,
     width: usize,
     planes: &mut [f32],
     edges: &mut [u8],
     scratch: &mut [f32],
 ) -> Narrowed
-    requires fit { FactorIn factor × FitPlanes (least_located factor) height width planes.old }
+    requires fit { FitPlanes (least_located factor.value) height width planes.old }
     requires room { (height * width ≤ length edges.old) × (height * width ≤ length scratch.old) }
-    ensures { let last = last_of factor height width planes.old in
+    ensures { let last = last_of factor.value height width planes.old in
         Narrows height width last result planes.new scratch.new
         × AtFront (edges_at last.stage) edges.old edges.new }
 {
