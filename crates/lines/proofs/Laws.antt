@@ -1,7 +1,7 @@
 -- For callers: how many lines and wide gaps there are and how large, and what remains after both drops. Assumes nothing.
 use Prim.Native.Nat.{ℕ, ◌+◌, ◌-◌, ◌≤◌, ◌<◌}
 use mathlib.Core.Path.{◌≡◌, refl}
-use mathlib.Core.Bool.{Bool, true, false, cond}
+use mathlib.Core.Bool.{Bool}
 use mathlib.Core.List.{List, [], ◌∷◌}
 use native.Mathlib.Omega.{arith}
 use borrow.Author.Tests.{ltb-true}
@@ -21,11 +21,7 @@ lines_low s = largest_le (lines_of s) (length s) (λ k h. omega (arith, (rising_
 
 length_keep : (p : ℕ → Bool) (l : List ℕ) → length (keep p l) ≤ length l
 length_keep p [] = omega arith
-length_keep p (x ∷ l) = at (length_keep p l) (p x)
-  where
-    at : length (keep p l) ≤ length l → (t : Bool) → length (cond t (x ∷ keep p l) (keep p l)) ≤ length (x ∷ l)
-    at ih true = omega arith
-    at ih false = omega arith
+length_keep p (x ∷ l) = grind (arith, length_keep p l)
 
 length_gaps : (l : List ℕ) → length (gaps l) ≤ length l
 length_gaps [] = omega arith

@@ -1,7 +1,7 @@
 -- The entries of a list: a sorted list has no others, nor has one that keeps some. A gap equal to e outlives both drops. Assumes nothing.
 use Prim.Native.Nat.{ℕ, zero, suc, ◌+◌, ◌-◌, ◌≤◌, ◌<◌}
-use mathlib.Core.Path.{◌≡◌, refl, sym, ◌∙◌, ap}
-use mathlib.Core.Bool.{Bool, true, false, cond, true≢false}
+use mathlib.Core.Path.{◌≡◌, refl}
+use mathlib.Core.Bool.{Bool, true, false}
 use mathlib.Core.List.{List, [], ◌∷◌}
 use mathlib.Core.Logic.{◌⊎◌, inl, inr, ⊎_elim}
 use native.Mathlib.Omega.{arith}
@@ -25,49 +25,26 @@ has_entry l j h = entry_has self 0 (λ v. Has v l) l j h (has_at l)
 
 pub has_keep : (p : ℕ → Bool) (v : ℕ) (l : List ℕ) → Has v (keep p l) → (p v ≡ true) × Has v l
 has_keep p v [] m = absurd m
-has_keep p v (x ∷ l) m = at (has_keep p v l) (p x) refl m
-  where
-    at : (Has v (keep p l) → (p v ≡ true) × Has v l) → (t : Bool) → p x ≡ t → Has v (cond t (x ∷ keep p l) (keep p l))
-        → (p v ≡ true) × Has v (x ∷ l)
-    at ih true q (inl e) = (rw e at q, inl e)
-    at ih true q (inr m) = ((ih m).0, inr (ih m).1)
-    at ih false q m = ((ih m).0, inr (ih m).1)
+has_keep p v (x ∷ l) m = grind (arith, has_keep p v l)
 
 -- ---- a gap that is not narrow stays
 
 module _ (e : ℕ) (wide : narrow_gap e e ≡ false) where
-  narrow_other : (g : ℕ) → g ≡ e → narrow_gap e g ≡ true → ⊥
-  narrow_other g q n = true≢false (sym n ∙ ap (narrow_gap e) q ∙ wide)
-
   pub has_first : (l : List ℕ) → Has e (gaps l) → Has e (gaps (drop_first e l))
   has_first [] m = m
   has_first (x ∷ []) m = m
-  has_first (x ∷ y ∷ l) m = at (narrow_gap e (y - x)) refl m
-    where
-      at : (t : Bool) → narrow_gap e (y - x) ≡ t → Has e (gaps (x ∷ y ∷ l)) → Has e (gaps (cond t (y ∷ l) (x ∷ y ∷ l)))
-      at true q (inl g) = absurd (narrow_other (y - x) g q)
-      at true q (inr m) = m
-      at false q m = m
+  has_first (x ∷ y ∷ l) m = grind arith
 
   -- the last drop keeps the first line
   gaps_front : (x y : ℕ) (l : List ℕ) → gaps (x ∷ drop_last e (y ∷ l)) ≡ (y - x) ∷ gaps (drop_last e (y ∷ l))
   gaps_front x y [] = refl
-  gaps_front x y (z ∷ []) = at (narrow_gap e (z - y))
-    where
-      at : (t : Bool) → gaps (x ∷ cond t (y ∷ []) (y ∷ z ∷ [])) ≡ (y - x) ∷ gaps (cond t (y ∷ []) (y ∷ z ∷ []))
-      at true = refl
-      at false = refl
+  gaps_front x y (z ∷ []) = grind arith
   gaps_front x y (z ∷ w ∷ l) = refl
 
   pub has_last : (l : List ℕ) → Has e (gaps l) → Has e (gaps (drop_last e l))
   has_last [] m = m
   has_last (x ∷ []) m = m
-  has_last (x ∷ y ∷ []) m = at (narrow_gap e (y - x)) refl m
-    where
-      at : (t : Bool) → narrow_gap e (y - x) ≡ t → Has e (gaps (x ∷ y ∷ [])) → Has e (gaps (cond t (x ∷ []) (x ∷ y ∷ [])))
-      at true q (inl g) = absurd (narrow_other (y - x) g q)
-      at true q (inr m) = m
-      at false q m = m
+  has_last (x ∷ y ∷ []) m = grind arith
   has_last (x ∷ y ∷ z ∷ l) m = rw (gaps_front x y (z ∷ l)) (⊎_elim (λ g. inl g) (λ r. inr (has_last (y ∷ z ∷ l) r)) m)
 
 -- ---- what a gap tells of a list

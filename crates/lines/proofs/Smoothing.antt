@@ -1,21 +1,19 @@
 -- Smoothing in place of a copy: the first and last four stay, the others are filled in from the front. Assumes nothing.
-use Prim.Native.Nat.{ℕ, zero, suc, ◌+◌, ◌-◌, ◌≤◌, ◌<◌, max, min}
+use Prim.Native.Nat.{ℕ, zero, suc, ◌+◌, ◌-◌, ◌≤◌, ◌<◌}
 use mathlib.Core.Path.{◌≡◌, ◌∙◌}
-use mathlib.Core.Bool.{Bool, true, false, cond, ◌||◌}
 use mathlib.Core.List.{List}
 use native.Mathlib.Nat.{add-zero, le_refl}
 use native.Mathlib.Omega.{arith}
 use borrow.Author.Tests.{lt-ltb, le-ltb, le-leb}
-use lib.Dec.{ltb, leb}
-use lib.ListN.{length, get_or, take, drop}
+use lib.ListN.{length, get_or, take}
 use lib.Seq.{set-get_or}
 use Rattle.lists.specs.Front.{AtFront}
 use Rattle.lists.specs.Tab.{tab}
 use Rattle.lists.proofs.Tab.{length_tab_from, get_or_tab}
 use Rattle.lists.proofs.Front.{front_none, front_more, front_part, front_fits, front_within, front_beyond, front_over}
-use Rattle.lines.specs.Lines.{largest, entries_before, entries_behind, smoothed, smooth}
+use Rattle.lines.specs.Lines.{largest, smoothed, smooth}
 use Rattle.lines.specs.Inner.{InLimits}
-use Rattle.lines.proofs.Windows.{largest_at, largest_le, largest_take, largest_drop}
+use Rattle.lines.proofs.Windows.{largest_at, largest_le, largest_part}
 
 -- what is right already need not be written
 front_already : (m : ℕ) (f : ℕ → ℕ) (k : ℕ) {lent out : List ℕ} → AtFront (tab k f) lent out → k + m ≤ length lent
@@ -55,12 +53,7 @@ unfolding smooth
 length_smooth s = length_tab_from 0 (length s) (smoothed s)
 
 smoothed_le : (s : List ℕ) (i : ℕ) → smoothed s i ≤ largest s
-smoothed_le s i = go (ltb i 4 || leb (length s) (i + 4))
-  where
-    go : (t : Bool)
-        → cond t (get_or s i 0) (max (get_or s i 0) (min (largest (entries_before 4 s i)) (largest (entries_behind 4 s i)))) ≤ largest s
-    go true = largest_at s i
-    go false = omega (arith, largest_at s i, largest_take 4 (drop (i + 1) s), largest_drop (i + 1) s)
+smoothed_le s i = grind (arith, largest_at s i, largest_part 4 (i + 1) s)
 
 pub largest_smooth : (s : List ℕ) → largest (smooth s) ≤ largest s
 unfolding smooth
