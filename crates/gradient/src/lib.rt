@@ -4,6 +4,7 @@
 
 ghost use Rattle.std.specs.Prelude.{◌≡◌, false, ◌-◌, ◌*◌, ◌≤◌, ltb, length};
 ghost use Rattle.lists.specs.Front.{AtFront};
+ghost use Rattle.refusal.specs.Refusal.{answer_of};
 ghost use Rattle.board.specs.Board.{least_plane_side, sides_outside};
 ghost use Rattle.board.specs.Inner.{FitPlanes};
 ghost use Rattle.gradient.specs.Gradient.{gradients, GradientGives};
@@ -13,6 +14,7 @@ mod square;
 
 use board::Board;
 use planes::Planes;
+use refusal::Refusal;
 
 // The gradients of planes that are known to be fit.
 pub fn gradient_of(height: usize, width: usize, planes: &[f32], out: &mut [f32])
@@ -43,14 +45,16 @@ fn room_short(height: usize, width: usize, room: usize) -> bool
 }
 
 // Gradient of three planes into `out`, rows first. Refuses 1, 3 and 4; then nothing is written.
-pub fn get_gradient(height: usize, width: usize, planes: &[f32], out: &mut [f32]) -> u32
-    ensures { GradientGives height width planes.now out.old result out.new }
+pub fn get_gradient(
+    height: usize,
+    width: usize,
+    planes: &[f32],
+    out: &mut [f32],
+) -> Result<(), Refusal>
+    ensures { GradientGives height width planes.now out.old (answer_of result) out.new }
 {
     let short = room_short(height, width, out.len());
-    let answer = board::planes_answer(Board::LEAST_PLANE_SIDE, height, width, planes, short);
-    if answer == 0 {
-        gradient_of(height, width, planes, out);
-        return 0;
-    }
-    answer
+    board::check_planes(Board::LEAST_PLANE_SIDE, height, width, planes, short)?;
+    gradient_of(height, width, planes, out);
+    Ok(())
 }
