@@ -34,7 +34,7 @@ scores_fit E from to c₁ c₂ span high most =
 -- the numbers of a reading fit 32 bits
 pub quarters_fit : (s : List ℕ) → InLimits s → Fits32 (quarters_of s)
 quarters_fit s f =
-    by_outcome Fits32 s f tt tt
+    by_outcome Fits32 s f (omega arith, omega arith) (omega arith, omega arith)
     (λ r.
     let w = readable_wins r in
     let e = estimate (lines_of s) in

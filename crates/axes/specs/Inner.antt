@@ -26,7 +26,7 @@ pub record ReadsAxes (E : ℕ → ℕ → Bool) (b : Bounds) (before : List ℕ)
   pub rows_are : numbered gap_number r.rows ≡ quarters_of (row_scores E b)
   pub scores_are : AtFront (column_scores E b ++ row_scores E b) before after
 
--- a reading whose numbers fit 32 bits
+-- a reading whose numbers fit 32 bits; a refusal is 6 or 7
 abbrev pub Fits32 : Result (Reading ℕ) ℕ → Type 0
 Fits32 (Ok r) = (r.pitch ≤ 800) × (r.votes ≤ 4194304)
-Fits32 (Err n) = Unit
+Fits32 (Err n) = (6 ≤ n) × (n ≤ 7)

@@ -10,8 +10,8 @@ use Rattle.board.specs.declared.Bounds.{Bounds}
 use Rattle.board.specs.declared.Spacing.{Spacing}
 use Rattle.board.specs.Board.{resized, with_reading}
 use Rattle.bounds.proofs.Laws.{Wide}
-use Rattle.reading.specs.declared.Quarters.{Quarters}
-use Rattle.reading.specs.declared.Quarters.TheVariants.{Read, Refused}
+use Rattle.std.specs.Prelude.{Result, Ok, Err}
+use Rattle.reading.specs.declared.Reading.{Reading}
 use Rattle.reading.specs.Reading.{quarters_of}
 use Rattle.axes.specs.Inner.{Fits32}
 use Rattle.axes.proofs.Scoring.{quarters_fit}
@@ -43,10 +43,10 @@ module _ (b : Board) (h w n : ℕ) (bounds : Bounds) (wide : Wide (h - 2) (w - 2
         column_end = omega (arith, wide.column_end);
       }
 
-  joined_holds : (columns rows : Quarters) → Fits32 columns → CornersHold b (joined (resized b h w) n bounds columns rows)
-  joined_holds (Refused k) rows t = refusal_holds b h w k n (λ z. omega (arith, t.0))
-  joined_holds (Read _ _ _ _) (Refused k) t = refusal_holds b h w _ n (λ z. omega (arith, z))
-  joined_holds (Read _ _ _ _) (Read _ _ _ _) t =
+  joined_holds : (columns rows : Result (Reading ℕ) ℕ) → Fits32 columns → CornersHold b (joined (resized b h w) n bounds columns rows)
+  joined_holds (Err k) rows t = refusal_holds b h w k n (λ z. omega (arith, t.0))
+  joined_holds (Ok _) (Err k) t = refusal_holds b h w _ n (λ z. omega (arith, z))
+  joined_holds (Ok _) (Ok _) t =
       record {
         located = λ _. lie _ _;
         passed_on = λ _ _ _. lie _ _;

@@ -12,8 +12,8 @@ use Rattle.lists.proofs.Front.{front_fits, front_within}
 use Rattle.board.specs.declared.Board.{Board}
 use Rattle.board.specs.Board.{resized}
 use Rattle.bounds.specs.Bounds.{BoundsIn}
-use Rattle.reading.specs.declared.Quarters.{Quarters}
-use Rattle.reading.specs.declared.Quarters.TheVariants.{Read, Refused}
+use Rattle.std.specs.Prelude.{Result, Ok, Err}
+use Rattle.reading.specs.declared.Reading.{Reading}
 use Rattle.reading.specs.Reading.{gap_answer, quarters_of}
 use Rattle.reading.proofs.Answers.{answer_in, quarters_answer}
 use Rattle.axes.specs.Inner.{Fits32}
@@ -62,10 +62,10 @@ module _ (g : Reference) (s : Scored g) where
     down_entry i l =
         front_within 0 (length g.columns + i) x (simp length-append (omega arith)) ∙ get_or-append-add g.columns g.rows i 0
 
-    pub optimal : (b : Board) (n q offset count voted q' offset' count' voted' : ℕ) → quarters_of g.columns ≡ Read q offset count voted
-        → quarters_of g.rows ≡ Read q' offset' count' voted'
-        → Optimal g (joined b n g.bounds (Read q offset count voted) (Read q' offset' count' voted')) after
-    optimal b n q offset count voted q' offset' count' voted' across down =
+    pub optimal : (b : Board) (n : ℕ) (c r : Reading ℕ) → quarters_of g.columns ≡ Ok c
+        → quarters_of g.rows ≡ Ok r
+        → Optimal g (joined b n g.bounds (Ok c) (Ok r)) after
+    optimal b n c r across down =
         let e = s.wide in
         record {
           inside = inside;
@@ -77,27 +77,26 @@ module _ (g : Reference) (s : Scored g) where
           right_is = refl;
           rows_are = rw down;
           columns_are = rw across;
-          columns_unbeaten = unbeaten (column_axis g) s.columns_are e.rows e.columns _ q offset count voted columns_fit
+          columns_unbeaten = unbeaten (column_axis g) s.columns_are e.rows e.columns _ c columns_fit
               (λ i l. across_entry i (rw (scores_long (column_axis g) s.columns_are e.rows e.columns) l)) across;
-          rows_unbeaten = unbeaten (row_axis g) s.rows_are e.columns e.rows _ q' offset' count' voted' rows_fit
+          rows_unbeaten = unbeaten (row_axis g) s.rows_are e.columns e.rows _ r rows_fit
               (λ i l. down_entry i (rw (scores_long (row_axis g) s.rows_are e.columns e.rows) l)) down;
         }
 
     -- by the readings: the answer is 0 only where both were accepted
-    pub optimal_by : (b : Board) (n : ℕ) (columns rows : Quarters) → quarters_of g.columns ≡ columns → quarters_of g.rows ≡ rows
+    pub optimal_by : (b : Board) (n : ℕ) (columns rows : Result (Reading ℕ) ℕ) → quarters_of g.columns ≡ columns → quarters_of g.rows ≡ rows
         → Fits32 columns
         → (joined b n g.bounds columns rows).answer ≡ 0 → Optimal g (joined b n g.bounds columns rows) after
-    optimal_by b n (Refused k) rows e f t z = absurd (omega (arith, t.0))
-    optimal_by b n (Read q offset count voted) (Refused k) e f t z = absurd (omega arith)
-    optimal_by b n (Read q offset count voted) (Read q' offset' count' voted') e f t z =
-        optimal b n q offset count voted q' offset' count' voted' e f
+    optimal_by b n (Err k) rows e f t z = absurd (omega (arith, t.0))
+    optimal_by b n (Ok c) (Err k) e f t z = absurd (omega arith)
+    optimal_by b n (Ok c) (Ok r) e f t z = optimal b n c r e f
 
 -- a list that is read has no refusal, and one that is refused has its own
 module _ (s : List ℕ) (f : InLimits s) where
-  read_fits : {q offset count voted : ℕ} → quarters_of s ≡ Read q offset count voted → gap_answer (lines_of s) ≡ 0
+  read_fits : {r : Reading ℕ} → quarters_of s ≡ Ok r → gap_answer (lines_of s) ≡ 0
   read_fits e = sym (quarters_answer s) ∙ ap answer_in e
 
-  refused_not : {n : ℕ} → quarters_of s ≡ Refused n → gap_answer (lines_of s) ≡ 0 → ⊥
+  refused_not : {n : ℕ} → quarters_of s ≡ Err n → gap_answer (lines_of s) ≡ 0 → ⊥
   refused_not {n} e z =
       let six : 6 ≤ n = (rw e at (quarters_fit s f)).0 in
       let is : n ≡ 0 = sym (ap answer_in e) ∙ (quarters_answer s ∙ z) in
@@ -124,15 +123,15 @@ module _ (b : Board) (g : Reference) (s : g.last.too_small ≡ false → Scored 
 
   -- the answer is 0 exactly where a board is found by the rules
   module _ (large : g.last.too_small ≡ false) where
-    both : (columns rows : Quarters) → quarters_of g.columns ≡ columns → quarters_of g.rows ≡ rows
+    both : (columns rows : Result (Reading ℕ) ℕ) → quarters_of g.columns ≡ columns → quarters_of g.rows ≡ rows
         → ((joined sized n g.bounds columns rows).answer ≡ 0 → BoardFound g)
         × (BoardFound g → (joined sized n g.bounds columns rows).answer ≡ 0)
-    both (Refused k) rows e f =
+    both (Err k) rows e f =
         let six : 6 ≤ k = (rw e at (quarters_fit g.columns (columns_fit g (s large)))).0 in
         (λ z. absurd (omega (arith, six, z)), λ r. absurd (refused_not g.columns (columns_fit g (s large)) e r.columns_read))
-    both (Read q offset count voted) (Refused k) e f =
+    both (Ok _) (Err k) e f =
         (λ z. absurd (omega (arith, z)), λ r. absurd (refused_not g.rows (rows_fit g (s large)) f r.rows_read))
-    both (Read q offset count voted) (Read q' offset' count' voted') e f = (
+    both (Ok _) (Ok _) e f = (
       λ z. record {
         large = large;
         columns_read = read_fits g.columns (columns_fit g (s large)) e;

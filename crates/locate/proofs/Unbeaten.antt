@@ -9,17 +9,17 @@ use Rattle.strips.specs.Strip.{places, scores, EachColumn}
 use Rattle.strips.proofs.Scores.{count_is, length_scores, score_at}
 use Rattle.strips.proofs.Columns.{each_column}
 use Rattle.lines.specs.Inner.{InLimits}
-use Rattle.reading.specs.declared.Quarters.{Quarters}
-use Rattle.reading.specs.declared.Quarters.TheVariants.{Read, Refused}
+use Rattle.std.specs.Prelude.{Result, Ok, Err}
+use Rattle.reading.specs.declared.Reading.{Reading}
 use Rattle.reading.specs.Reading.{remaining, pitch_of, quarters_of}
 use Rattle.reading.proofs.Laws.{by_outcome, won}
 use Rattle.locate.specs.Reference.{Axis}
 use Rattle.locate.specs.Promise.{Unbeaten, place_at}
 
 -- where a list is read, lines remain
-abbrev Lined : List ℕ → Quarters → Type 0
-Lined s (Read q offset count votes) = 0 < length (remaining s)
-Lined s (Refused n) = Unit
+abbrev Lined : List ℕ → Result (Reading ℕ) ℕ → Type 0
+Lined s (Ok r) = 0 < length (remaining s)
+Lined s (Err n) = Unit
 
 lined : (s : List ℕ) → InLimits s → Lined s (quarters_of s)
 lined s f = by_outcome (Lined s) s f tt tt (λ r. r.some)
@@ -33,11 +33,11 @@ module _ (a : Axis) (is : a.scores ≡ scores a.picture a.from a.to a.low a.high
   placed : EachColumn a.low a.high
   placed = each_column a.low a.high wide
 
-  pub unbeaten : (entry : ℕ → ℕ) (q offset count voted : ℕ) → InLimits a.scores
+  pub unbeaten : (entry : ℕ → ℕ) (r : Reading ℕ) → InLimits a.scores
       → ((i : ℕ) → i < length (places a.low a.high) → entry i ≡ get_or a.scores i 0)
-      → quarters_of a.scores ≡ Read q offset count voted
-      → Unbeaten a (record { score = entry; offset = offset; quarter = q; votes = voted; pitch = pitch_of q })
-  unbeaten entry q offset count voted fit same e =
+      → quarters_of a.scores ≡ Ok r
+      → Unbeaten a (record { score = entry; offset = r.offset; quarter = r.pitch; votes = r.votes; pitch = pitch_of r.pitch })
+  unbeaten entry r fit same e =
       record {
         long = long;
         span = wide;

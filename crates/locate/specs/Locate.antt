@@ -1,13 +1,12 @@
 -- 01, "Locating" and its refusals, with 02, R-1 and R-3 to R-5: what a call hands back and leaves.
-use Rattle.std.specs.Prelude.{ℕ, ◌+◌, ◌*◌, ◌≤◌, ◌≡◌, Bool, cond, ◌||◌, List, [], ◌++◌, eqb, ltb, Float, length, drop}
+use Rattle.std.specs.Prelude.{ℕ, ◌+◌, ◌*◌, ◌≤◌, ◌≡◌, Bool, cond, ◌||◌, List, [], ◌++◌, eqb, ltb, Float, length, drop, Result, Ok, Err}
 use Rattle.lists.specs.Front.{AtFront}
 use Rattle.board.specs.declared.Board.{Board}
 use Rattle.board.specs.declared.Bounds.{Bounds}
 use Rattle.board.specs.declared.Spacing.{Spacing}
 use Rattle.board.specs.Board.{least_located, factor_outside, resized, with_reading}
 use Rattle.board.specs.Planes.{planes_answer}
-use Rattle.reading.specs.declared.Quarters.{Quarters}
-use Rattle.reading.specs.declared.Quarters.TheVariants.{Read, Refused}
+use Rattle.reading.specs.declared.Reading.{Reading}
 use Rattle.reading.specs.Reading.{pitch_of, quarters_of, line_answer}
 use Rattle.locate.specs.declared.Located.{Located}
 use Rattle.locate.specs.Reference.{Reference, reference_of}
@@ -54,17 +53,17 @@ abbrev pub spacing : ℕ → ℕ → ℕ → Spacing
 spacing q offset count = record { offset = offset; count = count; pitch = pitch_of q }
 
 -- both readings together, with the record as it is by then: columns answer first, rows with 2 more
-abbrev pub joined : Board → ℕ → Bounds → Quarters → Quarters → Located
-joined b narrowed bounds (Refused n) rows = declined b n narrowed
-joined b narrowed bounds (Read q offset count votes) (Refused n) = declined b (n + 2) narrowed
-joined b narrowed bounds (Read q offset count votes) (Read q' offset' count' votes') =
+abbrev pub joined : Board → ℕ → Bounds → Result (Reading ℕ) ℕ → Result (Reading ℕ) ℕ → Located
+joined b narrowed bounds (Err n) rows = declined b n narrowed
+joined b narrowed bounds (Ok c) (Err n) = declined b (n + 2) narrowed
+joined b narrowed bounds (Ok c) (Ok r) =
     record {
-      board = with_reading b bounds (spacing q' offset' count') (spacing q offset count);
+      board = with_reading b bounds (spacing r.pitch r.offset r.count) (spacing c.pitch c.offset c.count);
       answer = 0;
-      quarterr = q';
-      quarterc = q;
-      votesr = votes';
-      votesc = votes;
+      quarterr = r.pitch;
+      quarterc = c.pitch;
+      votesr = r.votes;
+      votesc = c.votes;
       narrowed = narrowed;
     }
 

@@ -1,6 +1,6 @@
 -- 01, "What the contracts carry": one statement on locating. On the same edge picture no walk scores more, and no offset and pitch get more
 -- votes, than what locating hands back; what it hands back is scored by a walk and voted for, and ties go as 01 says.
-use Rattle.std.specs.Prelude.{ℕ, ◌+◌, ◌-◌, ◌*◌, ◌≤◌, ◌<◌, ◌≡◌, false, List, Float, length, get_or}
+use Rattle.std.specs.Prelude.{ℕ, ◌+◌, ◌-◌, ◌*◌, ◌≤◌, ◌<◌, ◌≡◌, false, List, Float, length, get_or, Result, Ok, Err}
 use Rattle.board.specs.declared.Board.{Board}
 use Rattle.bounds.specs.Bounds.{BoundsIn}
 use Rattle.lanes.specs.Walk.{Walk, ends, Scores, ScoresAtMost}
@@ -8,8 +8,7 @@ use Rattle.strips.specs.Strip.{places, score_count}
 use Rattle.lanes.specs.Score.{Place, at, on_strip}
 use Rattle.votes.specs.Votes.{Wins}
 use Rattle.lines.specs.Lines.{lines_of, estimate}
-use Rattle.reading.specs.declared.Quarters.{Quarters}
-use Rattle.reading.specs.declared.Quarters.TheVariants.{Read, Refused}
+use Rattle.reading.specs.declared.Reading.{Reading}
 use Rattle.reading.specs.Reading.{remaining, pitch_of, gap_answer, quarters_of}
 use Rattle.locate.specs.declared.Located.{Located}
 use Rattle.locate.specs.Reference.{Reference, Axis, column_axis, row_axis}
@@ -67,9 +66,9 @@ pub record Unbeaten (a : Axis) (x : Handed) : Type 0 where
   pub pitch_is : x.pitch ≡ pitch_of x.quarter
 
 -- the count of an accepted reading. Its q is the winner's, which is the one handed back: one pair alone wins.
-abbrev pub count_in : Quarters → ℕ
-count_in (Read q offset count votes) = count
-count_in (Refused n) = 0
+abbrev pub count_in : Result (Reading ℕ) ℕ → ℕ
+count_in (Ok r) = r.count
+count_in (Err n) = 0
 
 -- where the answer is 0: both corners and the counts are the rules', and columns and rows are unbeaten. The widened bounds lie in the edge
 -- picture, which has a byte for each of its points, and the score slice has room for both lists: so no walk, no score and no line is taken

@@ -5,9 +5,11 @@
 // axes.
 #![tactic(auto)]
 
-ghost use Rattle.std.specs.Prelude.{◌≡◌, false, [], ◌-◌, ◌*◌, ◌≤◌, length, take};
+ghost use Rattle.std.specs.Prelude.{◌≡◌, false, [], ◌+◌, ◌-◌, ◌*◌, ◌≤◌, length, take, IfOk, Ok};
 ghost use Rattle.board.specs.Board.{least_located, sides_outside};
-ghost use Rattle.board.specs.Inner.{FactorIn, FitPlanes};
+ghost use Rattle.board.specs.Inner.{FitPlanes};
+ghost use Rattle.refusal.specs.Refusal.{number, answer_of, numbered};
+ghost use Rattle.reading.specs.Reading.{gap_number};
 ghost use Rattle.axes.specs.Inner.{Fits32};
 ghost use Rattle.locate.specs.Locate as Spec;
 ghost use Rattle.locate.specs.Locate.{lent, slices_short, checked, LocateGives};
@@ -15,9 +17,10 @@ ghost use Rattle.locate.specs.Promise.{Promise};
 ghost use Rattle.locate.specs.Corners.{CornersHold};
 ghost use Rattle.locate.specs.Inner.{NoneShort, Leads, ReadsFrom, Works};
 
-use board::{Board, Bounds, Spacing};
+use board::{Board, Bounds, Factor, Spacing};
 use narrowings::Narrowed;
-use reading::Quarters;
+use reading::{Gap, Reading};
+use refusal::Refusal;
 
 // A record and the answer, both pitches in quarters, both counts of votes, and how often the screen was narrowed.
 #[repr(C)]
@@ -30,15 +33,6 @@ pub struct Located {
     pub votesr: u32,
     pub votesc: u32,
     pub narrowed: u32,
-}
-
-// An accepted reading of one axis.
-#[derive(Clone, Copy)]
-struct AxisReading {
-    quarter: usize,
-    offset: usize,
-    count: usize,
-    votes: usize,
 }
 
 // Whether a slice other than the planes is short. With sides outside the limits any answer will do: it is not looked at.
@@ -60,22 +54,14 @@ fn slices_short(
         return true;
     }
     let n = height * width;
-    if edges.len() < n {
-        return true;
-    }
-    if scores.len() < height + width {
-        return true;
-    }
-    if scratch_f32.len() < n {
-        return true;
-    }
-    if scratch_u8.len() < n {
-        return true;
-    }
-    scratch_u32.len() < 4 * (height + width)
+    edges.len() < n
+        || scores.len() < height + width
+        || scratch_f32.len() < n
+        || scratch_u8.len() < n
+        || scratch_u32.len() < 4 * (height + width)
 }
 
-// The checks before any work.
+// The checks before any work. They hand back the factor.
 fn check(
     b: Board,
     factor: usize,
@@ -85,15 +71,14 @@ fn check(
     scratch_f32: &[f32],
     scratch_u8: &[u8],
     scratch_u32: &[u32],
-) -> u32
-    ensures { let s = lent planes.now edges.now scores.now
+) -> Result<Factor, Refusal>
+    ensures answer { let s = lent planes.now edges.now scores.now
         scratch_f32.now scratch_u8.now scratch_u32.now in
-        result ≡ checked b factor s }
+        answer_of result ≡ checked b factor s }
+    ensures value { IfOk result (λ f. f.value ≡ factor) }
 {
-    if board::factor_outside(factor) {
-        return 13;
-    }
-    let least = board::least_located(factor);
+    let factor = Factor::new(factor).ok_or(Refusal::BadFactor)?;
+    let least = factor.least_located();
     let short = slices_short(
         least,
         b.height,
@@ -104,32 +89,33 @@ fn check(
         scratch_u8,
         scratch_u32,
     );
-    board::planes_answer(least, b.height, b.width, planes, short)
+    board::check_planes(least, b.height, b.width, planes, short)?;
+    Ok(factor)
 }
 
 // A refusal: all but the record, the answer and the count of narrowings is 0.
-fn declined(b: Board, answer: u32, narrowed: u32) -> Located
-    ensures { result ≡ Spec.declined b answer narrowed }
+fn declined(b: Board, refusal: Refusal, narrowed: u32) -> Located
+    ensures { result ≡ Spec.declined b (number refusal) narrowed }
 {
     Located {
         board: b,
-        answer: answer,
+        answer: u32::from(refusal),
         quarterr: 0,
         quarterc: 0,
         votesr: 0,
         votesc: 0,
-        narrowed: narrowed,
+        narrowed,
     }
 }
 
-fn spacing(a: AxisReading) -> Spacing
-    requires { a.quarter ≤ 800 }
-    ensures { result ≡ Spec.spacing a.quarter a.offset a.count }
+fn spacing(reading: Reading<usize>) -> Spacing
+    requires { reading.pitch ≤ 800 }
+    ensures { result ≡ Spec.spacing reading.pitch reading.offset reading.count }
 {
     Spacing {
-        offset: a.offset,
-        count: a.count,
-        pitch: reading::pitch_of(a.quarter),
+        offset: reading.offset,
+        count: reading.count,
+        pitch: reading::pitch_of(reading.pitch),
     }
 }
 
@@ -138,62 +124,49 @@ fn accepted(
     b: Board,
     narrowed: u32,
     bounds: Bounds,
-    columns: AxisReading,
-    rows: AxisReading,
+    columns: Reading<usize>,
+    rows: Reading<usize>,
 ) -> Located
-    requires { (columns.quarter ≤ 800) × (columns.votes ≤ 4194304) × (rows.quarter ≤ 800) × (rows.votes ≤ 4194304) }
-    ensures { let across = Quarters.Read columns.quarter columns.offset columns.count columns.votes in
-        let down = Quarters.Read rows.quarter rows.offset rows.count rows.votes in
-        result ≡ Spec.joined b narrowed bounds across down }
+    requires { Fits32 (Ok columns) × Fits32 (Ok rows) }
+    ensures { result ≡ Spec.joined b narrowed bounds (Ok columns) (Ok rows) }
 {
-    let board = b.with_reading(bounds, spacing(rows), spacing(columns));
     Located {
-        board: board,
+        board: b.with_reading(bounds, spacing(rows), spacing(columns)),
         answer: 0,
-        quarterr: rows.quarter as u32,
-        quarterc: columns.quarter as u32,
+        quarterr: rows.pitch as u32,
+        quarterc: columns.pitch as u32,
         votesr: rows.votes as u32,
         votesc: columns.votes as u32,
-        narrowed: narrowed,
+        narrowed,
     }
 }
 
-// Both readings together: columns answer first, rows with 2 more.
-fn joined(b: Board, narrowed: u32, bounds: Bounds, columns: Quarters, rows: Quarters) -> Located
-    requires { Fits32 columns × Fits32 rows }
-    ensures { result ≡ Spec.joined b narrowed bounds columns rows }
+// Why the rows are not read.
+fn of_rows(gap: Gap) -> Refusal
+    ensures { number result ≡ gap_number gap + 2 }
+{
+    match gap {
+        Gap::Missing => Refusal::RowsNoGap,
+        Gap::Wide => Refusal::RowsTooFar,
+    }
+}
+
+// Both readings together: columns answer first.
+fn joined(
+    b: Board,
+    narrowed: u32,
+    bounds: Bounds,
+    columns: Result<Reading<usize>, Gap>,
+    rows: Result<Reading<usize>, Gap>,
+) -> Located
+    requires { Fits32 (numbered gap_number columns) × Fits32 (numbered gap_number rows) }
+    ensures { result ≡ Spec.joined b narrowed bounds (numbered gap_number columns) (numbered gap_number rows) }
 {
     match columns {
-        Quarters::Refused(n) => declined(b, n, narrowed),
-        Quarters::Read {
-            quarter,
-            offset,
-            count,
-            votes,
-        } => match rows {
-            Quarters::Refused(n) => declined(b, n + 2, narrowed),
-            Quarters::Read {
-                quarter: q,
-                offset: o,
-                count: k,
-                votes: v,
-            } => accepted(
-                b,
-                narrowed,
-                bounds,
-                AxisReading {
-                    quarter: quarter,
-                    offset: offset,
-                    count: count,
-                    votes: votes,
-                },
-                AxisReading {
-                    quarter: q,
-                    offset: o,
-                    count: k,
-                    votes: v,
-                },
-            ),
+        Err(gap) => declined(b, Refusal::from(gap), narrowed),
+        Ok(columns) => match rows {
+            Err(gap) => declined(b, of_rows(gap), narrowed),
+            Ok(rows) => accepted(b, narrowed, bounds, columns, rows),
         },
     }
 }
@@ -219,21 +192,19 @@ fn read_from(
     let n = row * column;
     let wide = bounds::widen(&edges[..n], column, row, column, l.bounds);
     let axes = axes::read_axes(&edges[..n], column, wide, scores, scratch_u8, scratch_u32);
-    let columns = axes.columns;
-    let rows = axes.rows;
     joined(
         b.resized(l.height, l.width),
         l.narrowed,
         wide,
-        columns,
-        rows,
+        axes.columns,
+        axes.rows,
     )
 }
 
 // The work, once the checks passed.
 fn work(
     b: Board,
-    factor: usize,
+    factor: Factor,
     planes: &mut [f32],
     edges: &mut [u8],
     scores: &mut [u32],
@@ -241,18 +212,22 @@ fn work(
     scratch_u8: &mut [u8],
     scratch_u32: &mut [u32],
 ) -> Located
-    requires fit { FactorIn factor × FitPlanes (least_located factor) b.height b.width planes.old }
+    requires fit { FitPlanes (least_located factor.value) b.height b.width planes.old }
     requires room { let s = lent planes.old edges.old scores.old scratch_f32.old scratch_u8.old scratch_u32.old in
         NoneShort b.height b.width s }
     ensures { let before = lent planes.old edges.old scores.old
         scratch_f32.old scratch_u8.old scratch_u32.old in
         let after = lent planes.new edges.new scores.new
         scratch_f32.new scratch_u8.new scratch_u32.new in
-        Works b factor before result after }
+        Works b factor.value before result after }
 {
     let l = narrowings::last_picture(factor, b.height, b.width, planes, edges, scratch_f32);
     if l.small {
-        return declined(b.resized(l.height, l.width), 5, l.narrowed);
+        return declined(
+            b.resized(l.height, l.width),
+            Refusal::TooSmall,
+            l.narrowed,
+        );
     }
     read_from(b, l, edges, scores, scratch_u8, scratch_u32)
 }
@@ -274,7 +249,7 @@ pub fn get_pos_pixel(
         scratch_f32.new scratch_u8.new scratch_u32.new in
         LocateGives b factor before result after × Promise b factor before result after × CornersHold b result }
 {
-    let answer = check(
+    let factor = match check(
         b,
         factor,
         planes,
@@ -283,10 +258,10 @@ pub fn get_pos_pixel(
         scratch_f32,
         scratch_u8,
         scratch_u32,
-    );
-    if answer != 0 {
-        return declined(b, answer, 0);
-    }
+    ) {
+        Ok(factor) => factor,
+        Err(refusal) => return declined(b, refusal, 0),
+    };
     let n = b.height * b.width;
     let m = 4 * (b.height + b.width);
     work(

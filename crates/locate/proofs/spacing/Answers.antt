@@ -1,0 +1,6 @@
+-- `locate::spacing` meets its contract: the pitch is the quarters' one.
+use borrow.Author.Rules.{rules}
+use Rattle.locate.proofs.spacing.Goals as goal
+
+pub returns : goal.returns
+returns c = rw c.pitch_of.ensures
