@@ -1,4 +1,4 @@
--- What the checks of a map tell, and what each way out of a call leaves. Assumes nothing.
+-- What the checks of a map tell. Assumes nothing.
 use Prim.Native.Nat.{ℕ, ◌≤◌}
 use mathlib.Core.Path.{◌≡◌, sym}
 use mathlib.Core.List.{List}
@@ -39,14 +39,3 @@ prints b planes room e =
       };
       output = ltb-false room (length (map_text b planes)) o.0;
     }
-
--- ---- the ways out
-
-module _ (b : Board) (planes : List Float) (before : List ℕ) where
-  pub refused : (n : ℕ) → n ≡ map_answer b planes (length before) → (n ≡ 0 → ⊥)
-      → MapGives b planes before (record { answer = n; length = 0 }) before
-  refused n e z = record { answer_is = e; length_is = rw (ne_eqb n 0 z); out_is = rw (ne_eqb n 0 z) front_none }
-
-  pub printed : (n : ℕ) (after : List ℕ) → map_answer b planes (length before) ≡ 0 → n ≡ length (map_text b planes)
-      → AtFront (map_text b planes) before after → MapGives b planes before (record { answer = 0; length = n }) after
-  printed n after e l h = record { answer_is = sym e; length_is = l; out_is = h }

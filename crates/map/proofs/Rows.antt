@@ -27,20 +27,21 @@ module _ (b : Board) (planes : List Float) where
       simp length-append (omega (arith, marks, spaces))
 
   -- its marks by the places of its cells, the spaces, and the line feed
-  pub row_put : (x i : ℕ) (columns : List ℕ) {at m n next : ℕ} {before marked spaced after : List ℕ} → b.c ≤ line_width
-      → at + (line_width + 1) ≤ length before → i ≡ row_at b x 1 0 → ((y : ℕ) → y < b.c → get_or columns y 0 ≡ column_at b y 1 0)
-      → Puts (tab b.c (λ y. mark_at b planes i (get_or columns y 0))) at before m marked
-      → Puts (replicate (line_width - b.c) 32) m marked n spaced → Puts (10 ∷ []) n spaced next after
+  pub row_put : (x i : ℕ) (columns : List ℕ) {at m n next : ℕ} {before marked spaced after : List ℕ} → length columns ≡ b.c
+      → b.c ≤ line_width → at + (line_width + 1) ≤ length before → i ≡ row_at b x 1 0
+      → ((y : ℕ) → y < b.c → get_or columns y 0 ≡ column_at b y 1 0)
+      → Puts (tab (length columns) (λ y. mark_at b planes i (get_or columns y 0))) at before m marked
+      → Puts (replicate (line_width - length columns) 32) m marked n spaced → Puts (10 ∷ []) n spaced next after
       → Puts (row_line b planes x) at before next after
   unfolding row_line
-  row_put x i columns h room row column marks spaces feed =
-      let same : tab b.c (λ y. mark_at b planes i (get_or columns y 0)) ≡ tab b.c (cell_mark b planes x) =
-      tab_same b.c _ _ (λ y l. rw (row, column y l)) in
-      let long = length-replicate {A = ℕ} (line_width - b.c) 32 in
-      let from = length_tab_from 0 b.c (λ y. mark_at b planes i (get_or columns y 0)) in
+  row_put x i columns l h room row column marks spaces feed =
+      let same : tab (length columns) (λ y. mark_at b planes i (get_or columns y 0)) ≡ tab b.c (cell_mark b planes x) =
+      rw l (tab_same b.c _ _ (λ y k. rw (row, column y k))) in
+      let long = length-replicate {A = ℕ} (line_width - length columns) 32 in
+      let from = length_tab_from 0 (length columns) (λ y. mark_at b planes i (get_or columns y 0)) in
       rw (← same)
-      (puts_join marks (puts_join spaces feed (omega (arith, marks.next_is, spaces.next_is, marks.placed.len, long, from)))
-      (omega (arith, marks.next_is, from)))
+      (puts_join marks (puts_join (rw l at spaces) feed (omega (arith, marks.next_is, spaces.next_is, marks.placed.len, long, from, l)))
+      (omega (arith, marks.next_is, from, l)))
 
   -- ---- the rows one after another
 
@@ -75,3 +76,15 @@ text_length_lem b planes h =
     let counts = numbers_line (b.r ∷ b.c ∷ []) in
     let rows = in_turn (tab b.r (row_line b planes)) in
     omega (arith, length-append names_line (counts ++ rows), length-append counts rows, all_rows_length b planes h)
+
+-- the names, the counts, and the rows
+pub map_put : (b : Board) (planes : List Float) {m n next : ℕ} {before named counted after : List ℕ} → b.c ≤ line_width
+    → length (map_text b planes) ≤ length before
+    → Puts names_line 0 before m named → Puts (numbers_line (b.r ∷ b.c ∷ [])) m named n counted
+    → Puts (in_turn (tab b.r (row_line b planes))) n counted next after
+    → Puts (map_text b planes) 0 before next after
+unfolding map_text
+map_put b planes h room names counts rows =
+    let long = text_length_lem b planes h in
+    puts_join names (puts_join counts rows (omega (arith, room, long, names.next_is, names.placed.len, counts.next_is)))
+    (omega (arith, room, long, names.next_is))
