@@ -1,6 +1,7 @@
 -- What the checks of a map tell. Assumes nothing.
 use Prim.Native.Nat.{ℕ, ◌≤◌}
-use mathlib.Core.Path.{◌≡◌, sym}
+use mathlib.Core.Path.{◌≡◌, sym, ◌∙◌}
+use native.Mathlib.Nat.{zero-add}
 use mathlib.Core.List.{List}
 use borrow.Author.Tests.{ltb-false, ne_eqb}
 use lib.Dec.{ltb}
@@ -8,6 +9,8 @@ use lib.Ieee.{Float}
 use lib.ListN.{length}
 use Rattle.lists.specs.Front.{AtFront}
 use Rattle.lists.proofs.Front.{front_none}
+use Rattle.lists.proofs.Front.{placed_start}
+use Rattle.text.specs.Inner.{Puts}
 use Rattle.board.specs.declared.Board.{Board}
 use Rattle.board.proofs.Sides.{passed}
 use Rattle.sample.specs.Fit.{fit_answer}
@@ -39,3 +42,9 @@ prints b planes room e =
       };
       output = ltb-false room (length (map_text b planes)) o.0;
     }
+
+-- the text is printed
+pub printed : (b : Board) (planes : List Float) {n : ℕ} {before after : List ℕ} → map_answer b planes (length before) ≡ 0
+    → Puts (map_text b planes) 0 before n after
+    → MapGives b planes before (record { answer = 0; length = n }) after
+printed b planes e text = record { answer_is = sym e; length_is = text.next_is ∙ zero-add _; out_is = placed_start text.placed }

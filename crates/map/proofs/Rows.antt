@@ -10,7 +10,7 @@ use Rattle.lists.specs.Tab.{tab, tab_from}
 use Rattle.lists.proofs.Tab.{length_tab_from, tab_same}
 use Rattle.text.specs.Inner.{Puts}
 use Rattle.text.specs.Text.{decimal, following, numbers_line}
-use Rattle.text.proofs.Writing.{puts_join}
+use Rattle.text.proofs.Writing.{puts_join, Partly, partly_none, partly_room, partly_more}
 use Rattle.board.specs.declared.Board.{Board}
 use Rattle.sample.specs.Sample.{row_at, column_at}
 use Rattle.map.specs.Map.{line_width, mark_at, cell_mark, names_line, row_line, in_turn, map_text}
@@ -55,12 +55,23 @@ module _ (b : Board) (planes : List Float) where
   all_rows_length = rows_length 0 b.r
 
   -- row x, and those after it
-  pub rows_next : (x : ℕ) → x < b.r → in_turn (tab_from x (b.r - x) (row_line b planes))
-      ≡ row_line b planes x ++ in_turn (tab_from (x + 1) (b.r - (x + 1)) (row_line b planes))
-  rows_next x l = let e : b.r - x ≡ suc (b.r - (x + 1)) = omega arith in rw (e, add-one x)
+  abbrev pub lines_from : ℕ → List ℕ
+  lines_from x = in_turn (tab_from x (b.r - x) (row_line b planes))
 
-  pub rows_none : (x : ℕ) → x ≡ b.r → in_turn (tab_from x (b.r - x) (row_line b planes)) ≡ []
-  rows_none x e = let n : b.r - x ≡ 0 = omega arith in rw n
+  next_line : (x : ℕ) → x < b.r → lines_from x ≡ row_line b planes x ++ lines_from (x + 1)
+  next_line x l = let e : b.r - x ≡ suc (b.r - (x + 1)) = omega arith in rw (e, add-one x)
+
+  pub rows_start : {at : ℕ} {before : List ℕ} → b.c ≤ line_width → at + b.r * (line_width + 1) ≤ length before
+      → Partly (in_turn (tab b.r (row_line b planes))) (lines_from 0) at before at before
+  rows_start h room = let z : b.r - 0 ≡ b.r = omega arith in rw z (partly_none (omega (arith, all_rows_length h, room)))
+
+  module _ {whole before mid : List ℕ} {at m : ℕ} (x : ℕ) where
+    pub row_room : x < b.r → b.c ≤ line_width → Partly whole (lines_from x) at before m mid → m + (line_width + 1) ≤ length mid
+    row_room l h p = omega (arith, partly_room (row_line b planes x) _ (rw (next_line x l) at p), row_length x h)
+
+    pub row_more : {after : List ℕ} {next : ℕ} → x < b.r → Partly whole (lines_from x) at before m mid
+        → Puts (row_line b planes x) m mid next after → Partly whole (lines_from (x + 1)) at before next after
+    row_more l p line = partly_more (row_line b planes x) (rw (next_line x l) at p) line
 
 -- ---- the whole text
 

@@ -102,7 +102,7 @@ fn check(b: Board, planes: &[f32], room: usize) -> Result<(), Refusal>
 }
 
 // The map of any record and planes: the text at the start of `out` and its length, or a refusal and nothing written.
-#[tactic(auto, using(crate::proofs::Answers::prints))]
+#[tactic(auto, using(crate::proofs::Answers::prints, crate::proofs::Answers::printed))]
 pub fn print_map(b: Board, planes: &[f32], out: &mut [u8]) -> Result<usize, Refusal>
     ensures { MapGives b planes.now out.old (printed_of result) out.new }
 {

@@ -1,6 +1,5 @@
 // The text of a board that is fit to be printed (02, R-6).
 ghost use Rattle.std.specs.Prelude.{◌≡◌, ℕ, ◌+◌, ◌*◌, ◌≤◌, ◌<◌, length, get_or};
-ghost use Rattle.lists.specs.Front.{AtFront};
 ghost use Rattle.lists.specs.Tab.{tab};
 ghost use Rattle.text.specs.Inner.{Puts};
 ghost use Rattle.sample.specs.Sample.{column_at};
@@ -44,7 +43,7 @@ impl Page<'_> {
     }
 
     // The marks of a board row whose cells lie in picture row i and these columns.
-    #[tactic(auto, using(lists::proofs::Front::placed_more, lists::proofs::Tab::length_tab_from))]
+    #[tactic(auto, using(lists::proofs::Tab::length_tab_from))]
     fn put_marks(&self, i: usize, columns: &[usize], out: &mut [u8], at: usize) -> usize
         requires { at + length columns.now ≤ length out.old }
         ensures { Puts (tab (length columns.now) (λ y. mark_at self.now.board self.now.planes.now i (get_or columns.now y 0)))
@@ -57,7 +56,7 @@ impl Page<'_> {
     }
 
     // The line of board row x.
-    #[tactic(auto, using(lists::proofs::Tab::length_tab_from, crate::proofs::Rows::row_put))]
+    #[tactic(auto, using(lists::proofs::Tab::length_tab_from))]
     fn put_row(&self, columns: &[usize], x: usize, out: &mut [u8], at: usize) -> usize
         requires room { (x < self.now.board.r) × (at + (line_width + 1) ≤ length out.old) }
         requires columns_known { (length columns.now ≡ self.now.board.c)
@@ -71,6 +70,7 @@ impl Page<'_> {
     }
 
     // The lines of all board rows.
+    #[tactic(auto, using(crate::proofs::Rows::rows_start, crate::proofs::Rows::row_more))]
     fn put_rows(&self, out: &mut [u8], at: usize) -> usize
         requires { at + self.now.board.r * (line_width + 1) ≤ length out.old }
         ensures { Puts (in_turn (tab self.now.board.r (row_line self.now.board self.now.planes.now))) at out.old result out.new }
@@ -84,10 +84,10 @@ impl Page<'_> {
     }
 
     // The whole text, and how many bytes it is.
+    #[tactic(auto, using(crate::proofs::Rows::text_length_lem))]
     pub(crate) fn put_map(&self, out: &mut [u8]) -> usize
         requires { length (map_text self.now.board self.now.planes.now) ≤ length out.old }
-        ensures length_is { result ≡ length (map_text self.now.board self.now.planes.now) }
-        ensures front { AtFront (map_text self.now.board self.now.planes.now) out.old out.new }
+        ensures { Puts (map_text self.now.board self.now.planes.now) 0 out.old result out.new }
     {
         let mut next = text::put_bytes(out, 0, b"rows columns\n");
         next = text::put_numbers(out, next, &[self.board.r as u64, self.board.c as u64]);
