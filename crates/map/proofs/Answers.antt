@@ -3,12 +3,10 @@ use Prim.Native.Nat.{ℕ, ◌≤◌}
 use mathlib.Core.Path.{◌≡◌, sym, ◌∙◌}
 use native.Mathlib.Nat.{zero-add}
 use mathlib.Core.List.{List}
-use borrow.Author.Tests.{ltb-false, ne_eqb}
+use borrow.Author.Tests.{ltb-false}
 use lib.Dec.{ltb}
 use lib.Ieee.{Float}
 use lib.ListN.{length}
-use Rattle.lists.specs.Front.{AtFront}
-use Rattle.lists.proofs.Front.{front_none}
 use Rattle.lists.proofs.Front.{placed_start}
 use Rattle.text.specs.Inner.{Puts}
 use Rattle.board.specs.declared.Board.{Board}

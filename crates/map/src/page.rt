@@ -20,7 +20,7 @@ pub(crate) struct Page<'a> {
 
 impl Page<'_> {
     // The mark of a place of the picture, or beside it.
-    #[tactic(auto, unfolding(crate::specs::Map::mark_at), using(crate::proofs::Marks::value_unit, crate::proofs::Marks::mark_inside))]
+    #[tactic(auto, unfolding(crate::specs::Map::mark_at), using(crate::proofs::Marks::value_unit))]
     fn mark_at(&self, i: usize, j: usize) -> u8
         ensures { result ≡ mark_at self.now.board self.now.planes.now i j }
     {

@@ -1,7 +1,6 @@
-use Rattle.std.proofs.Common.{ℕ, ◌-◌, length, arith, rules}
+use Rattle.std.proofs.Common.{arith, rules}
 use lib.ListN.{length-replicate}
 use Rattle.lists.proofs.Tab.{length_tab_from}
-use Rattle.map.specs.Map.{line_width}
 use Rattle.map.proofs.Rows.{row_put}
 use Rattle.map.proofs.page.Page.put_row.Goals as goal
 
