@@ -1,13 +1,14 @@
--- What the checks of a map tell, and what each way out of a call leaves. Assumes nothing.
+-- What the checks of a map tell. Assumes nothing.
 use Prim.Native.Nat.{ℕ, ◌≤◌}
-use mathlib.Core.Path.{◌≡◌, sym}
+use mathlib.Core.Path.{◌≡◌, sym, ◌∙◌}
+use native.Mathlib.Nat.{zero-add}
 use mathlib.Core.List.{List}
-use borrow.Author.Tests.{ltb-false, ne_eqb}
+use borrow.Author.Tests.{ltb-false}
 use lib.Dec.{ltb}
 use lib.Ieee.{Float}
 use lib.ListN.{length}
-use Rattle.lists.specs.Front.{AtFront}
-use Rattle.lists.proofs.Front.{front_none}
+use Rattle.lists.proofs.Front.{placed_start}
+use Rattle.text.specs.Inner.{Puts}
 use Rattle.board.specs.declared.Board.{Board}
 use Rattle.board.proofs.Sides.{passed}
 use Rattle.sample.specs.Fit.{fit_answer}
@@ -40,13 +41,8 @@ prints b planes room e =
       output = ltb-false room (length (map_text b planes)) o.0;
     }
 
--- ---- the ways out
-
-module _ (b : Board) (planes : List Float) (before : List ℕ) where
-  pub refused : (n : ℕ) → n ≡ map_answer b planes (length before) → (n ≡ 0 → ⊥)
-      → MapGives b planes before (record { answer = n; length = 0 }) before
-  refused n e z = record { answer_is = e; length_is = rw (ne_eqb n 0 z); out_is = rw (ne_eqb n 0 z) front_none }
-
-  pub printed : (n : ℕ) (after : List ℕ) → map_answer b planes (length before) ≡ 0 → n ≡ length (map_text b planes)
-      → AtFront (map_text b planes) before after → MapGives b planes before (record { answer = 0; length = n }) after
-  printed n after e l h = record { answer_is = sym e; length_is = l; out_is = h }
+-- the text is printed
+pub printed : (b : Board) (planes : List Float) {n : ℕ} {before after : List ℕ} → map_answer b planes (length before) ≡ 0
+    → Puts (map_text b planes) 0 before n after
+    → MapGives b planes before (record { answer = 0; length = n }) after
+printed b planes e text = record { answer_is = sym e; length_is = text.next_is ∙ zero-add _; out_is = placed_start text.placed }

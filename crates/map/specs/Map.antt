@@ -1,6 +1,6 @@
 -- 02, R-6: the printed map and its refusals. Text is bytes of ASCII: 10 a line feed, 32 a space.
 use Rattle.std.specs.Prelude.{ℕ, ◌+◌, ◌-◌, ◌*◌, ◌≤◌, ◌<◌, ◌≡◌, true, cond, ◌&&◌}
-use Rattle.std.specs.Prelude.{List, [], ◌∷◌, ◌++◌, T, eqb, leb, ltb, Float, length, get_or, replicate}
+use Rattle.std.specs.Prelude.{List, [], ◌∷◌, ◌++◌, T, eqb, leb, ltb, Float, length, get_or, replicate, Result, Ok, Err}
 use Rattle.std.specs.Float.{nan, binary32}
 use Rattle.std.specs.Float.Ieee.{add, mul, of_bits, fits}
 use Rattle.binary32.specs.Binary32.{unit, trunc}
@@ -9,6 +9,8 @@ use Rattle.lists.specs.Tab.{tab}
 use Rattle.text.specs.Text.{numbers_line}
 use Rattle.board.specs.declared.Board.{Board}
 use Rattle.board.specs.Screen.{view}
+use Rattle.refusal.specs.declared.Refusal.{Refusal}
+use Rattle.refusal.specs.Refusal.{number}
 use Rattle.load.specs.declared.Loaded.{Loaded}
 use Rattle.load.specs.Load.{most_byte, LoadGives}
 use Rattle.sample.specs.Sample.{row_at, column_at, cell, sample_answer}
@@ -76,6 +78,11 @@ unfolding fit_answer print_answer
 map_answer b planes room =
     let a = fit_answer b planes in
     cond (eqb a 0) (print_answer b planes room) a
+
+-- a text's length, or a refusal, as C has it
+abbrev pub printed_of : Result ℕ Refusal → Printed
+printed_of (Ok n) = record { answer = 0; length = n }
+printed_of (Err r) = record { answer = number r; length = 0 }
 
 -- what a call answers, the length that it hands back, and what the output holds after it: the text at its front; on a refusal the length
 -- is 0, and nothing is written
