@@ -1,4 +1,4 @@
 pub mod Cut
 pub mod Numbers
 pub mod Prefix
-pub mod Sides
+pub mod Shown

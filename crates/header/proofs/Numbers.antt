@@ -1,41 +1,47 @@
 -- Numbers in decimal: where their digits end, and what they are worth.
 use Prim.Native.Nat.{ℕ, zero, suc, ◌+◌, ◌-◌, ◌*◌, ◌<◌, ◌≤◌}
-use mathlib.Core.Path.{◌≡◌}
-use mathlib.Core.Bool.{true, false}
-use mathlib.Core.List.{List}
+use mathlib.Core.Path.{◌≡◌, refl, ap}
+use mathlib.Core.Bool.{Bool, true, false, cond}
+use mathlib.Core.List.{List, [], ◌∷◌}
 use native.Mathlib.Numerals.{add-one}
 use native.Mathlib.Omega.{arith}
-use lib.ListN.{length, get_or, drop, drop_of_length-le}
-use lib.Seq.{drop-cons}
+use lib.ListN.{length, get_or}
+use Rattle.std.specs.Char.{is_ascii_digit}
+use Rattle.std.specs.List.{prefix_len}
 use borrow.Author.Tests.{ltb-true, leb-true}
 use lib.Dec.{leb, ltb}
 use Rattle.board.proofs.Sides.{both}
-use Rattle.header.specs.declared.Input.TheVariants.{Refused}
+use Rattle.std.specs.Prelude.{Result, Ok, Err}
+use Rattle.refusal.specs.declared.Refusal.{Refusal}
+use Rattle.header.specs.declared.Numeral.{Numeral}
+use Rattle.header.specs.declared.Sides.{Sides}
+use Rattle.header.specs.Inner.{number_at, after}
+use Rattle.refusal.specs.declared.Refusal.TheVariants.{BadNumber}
 use Rattle.header.specs.Header.{is_digit, digit_count, digits_end, four_at_most, value_at, sized, numbers_at}
 
-module _ (bytes : List ℕ) (k : ℕ) where
-  -- a digit more
-  pub digit_more : k < length bytes → is_digit (get_or bytes k 0) ≡ true
-      → (k + 1) + digit_count (drop (k + 1) bytes) ≡ k + digit_count (drop k bytes)
-  digit_more l e = rw (add-one, drop-cons bytes k 0 l, e) (omega arith)
+-- the digits that a list begins with, in std's words
+pub count_is : (bytes : List ℕ) → prefix_len is_ascii_digit bytes ≡ digit_count bytes
+unfolding is_digit
+count_is [] = refl
+count_is (b ∷ bytes) = ap (λ (n : ℕ). cond (is_digit b) n 0) (omega (arith, count_is bytes))
 
-  -- no digit
-  pub digit_none : k < length bytes → is_digit (get_or bytes k 0) ≡ false → k + digit_count (drop k bytes) ≡ k
-  digit_none l e = rw (drop-cons bytes k 0 l, e) (omega arith)
-
-  pub digits_past : length bytes ≤ k → k + digit_count (drop k bytes) ≡ k
-  digits_past l = rw (drop_of_length-le bytes l) (omega arith)
+pub count_in : (bytes : List ℕ) → digit_count bytes ≤ length bytes
+unfolding is_digit
+count_in [] = omega arith
+count_in (b ∷ bytes) = go (is_digit b) (count_in bytes)
+  where
+    go : (t : Bool) → digit_count bytes ≤ length bytes → cond t (suc (digit_count bytes)) 0 ≤ suc (length bytes)
+    go true l = omega arith
+    go false l = omega arith
 
 -- what n digits are worth at most, where a digit is any byte
 unfoldable pub worth : ℕ → ℕ
 worth zero = 0
 worth (suc n) = 10 * worth n + 207
 
-pub worth_more : (from k v d : ℕ) → from ≤ k → v ≤ worth (k - from) → d ≤ 207 → 10 * v + d ≤ worth (k + 1 - from)
+pub worth_more : (n v d : ℕ) → v ≤ worth n → d ≤ 207 → 10 * v + d ≤ worth (n + 1)
 unfolding worth
-worth_more from k v d h l e =
-    let n : k + 1 - from ≡ suc (k - from) = omega arith in
-    rw n (omega arith)
+worth_more n v d l e = rw add-one (omega arith)
 
 pub worth_small : (n : ℕ) → n ≤ 4 → worth n ≤ 300000
 unfolding worth
@@ -47,14 +53,11 @@ worth_small (suc (suc (suc (suc zero)))) h = omega arith
 worth_small (suc (suc (suc (suc (suc n))))) h = absurd (omega arith)
 
 -- one digit taken
-pub value_more : (bytes : List ℕ) (k end v d : ℕ) → k < end → d ≡ get_or bytes k 0 - 48
-    → value_at bytes (k + 1) (end - (k + 1)) (10 * v + d) ≡ value_at bytes k (end - k) v
-value_more bytes k end v d l e =
+pub value_more : (bytes : List ℕ) (k next end v d : ℕ) → next ≡ k + 1 → k < end → d ≡ get_or bytes k 0 - 48
+    → value_at bytes next (end - next) (10 * v + d) ≡ value_at bytes k (end - k) v
+value_more bytes k next end v d m l e =
     let n : end - k ≡ suc (end - (k + 1)) = omega arith in
-    rw (n, add-one, e)
-
-pub value_all : (bytes : List ℕ) (k end v : ℕ) → end ≤ k → value_at bytes k (end - k) v ≡ v
-value_all bytes k end v l = let n : end - k ≡ 0 = omega arith in rw n
+    rw (n, m, add-one, e)
 
 -- where a number has one to four digits
 pub four_facts : (bytes : List ℕ) (from end mark : ℕ) → four_at_most bytes from end mark ≡ true → (from < end) × (end ≤ from + 4)
@@ -66,12 +69,12 @@ four_facts bytes from end mark e =
 
 -- the three ways to read two numbers
 module _ (bytes : List ℕ) (from space : ℕ) (s : space ≡ digits_end bytes from) where
-  pub first_bad : four_at_most bytes from space 32 ≡ false → Refused 11 ≡ numbers_at bytes from
+  pub first_bad : four_at_most bytes from space 32 ≡ false → Err BadNumber ≡ numbers_at bytes from
   unfolding numbers_at
   first_bad e = rw (← s, e)
 
   module _ (good : four_at_most bytes from space 32 ≡ true) (feed : ℕ) (f : feed ≡ digits_end bytes (space + 1)) where
-    pub second_bad : four_at_most bytes (space + 1) feed 10 ≡ false → Refused 11 ≡ numbers_at bytes from
+    pub second_bad : four_at_most bytes (space + 1) feed 10 ≡ false → Err BadNumber ≡ numbers_at bytes from
     unfolding numbers_at
     second_bad e = rw (← s, good, ← f, e)
 
@@ -79,3 +82,18 @@ module _ (bytes : List ℕ) (from space : ℕ) (s : space ≡ digits_end bytes f
         → sized (value_at bytes from (space - from) 0) (value_at bytes (space + 1) (feed - (space + 1)) 0) (feed + 1) ≡ numbers_at bytes from
     unfolding numbers_at
     both_good e = rw (← s, good, ← f, e)
+
+-- a number, or none, and what is made of it
+made_of : (b : Bool) (n : Numeral) (x : Result Sides Refusal) (made : Numeral → Result Sides Refusal) → x ≡ made n
+    → cond b x (Err BadNumber) ≡ after (cond b (Ok n) (Err BadNumber)) made
+made_of true n x made e = e
+made_of false n x made e = refl
+
+-- the same number by number
+pub numbers_read : (bytes : List ℕ) (from : ℕ) → numbers_at bytes from
+    ≡ after (number_at bytes from 32) (λ h. after (number_at bytes h.next 10) (λ w. sized h.value w.value w.next))
+unfolding numbers_at number_at
+numbers_read bytes from =
+    let space = digits_end bytes from in
+    let feed = digits_end bytes (space + 1) in
+    made_of (four_at_most bytes from space 32) _ _ _ (made_of (four_at_most bytes (space + 1) feed 10) _ _ _ refl)

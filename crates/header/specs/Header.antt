@@ -1,8 +1,10 @@
 -- 01, "Screen program": the first two lines of the input. Bytes are ASCII: 10 a line feed, 32 a space, 48 to 57 the digits.
 use Rattle.std.specs.Prelude.{ℕ, zero, suc, ◌+◌, ◌-◌, ◌*◌, Bool, true, false, cond, ◌&&◌, List, [], ◌∷◌, eqb, leb, ltb, get_or, drop}
+use Rattle.std.specs.Prelude.{Result, Ok, Err}
 use Rattle.board.specs.Board.{least_side}
-use Rattle.header.specs.declared.Input.{Input}
-use Rattle.header.specs.declared.Input.TheVariants.{Sides, Refused}
+use Rattle.refusal.specs.declared.Refusal.{Refusal}
+use Rattle.refusal.specs.declared.Refusal.TheVariants.{BadSide, BadNumber}
+use Rattle.header.specs.declared.Sides.{Sides}
 
 -- "height width" and a line feed
 abbrev pub sides_line : List ℕ
@@ -42,12 +44,12 @@ most_shown = 64
 abbrev pub shown_side : ℕ → Bool
 shown_side side = leb least_side side && leb side most_shown
 
--- sides outside their limits are refused with 1; `at` is where the pixels begin
-unfoldable pub sized : ℕ → ℕ → ℕ → Input
-sized h w at = cond (shown_side h && shown_side w) (Sides h w at) (Refused 1)
+-- sides outside their limits are refused with 1, BadSide; `at` is where the pixels begin
+unfoldable pub sized : ℕ → ℕ → ℕ → Result Sides Refusal
+sized h w at = cond (shown_side h && shown_side w) (Ok (record { height = h; width = w; at = at })) (Err BadSide)
 
--- two numbers from `from` on, a space between them and a line feed behind; anything else is refused with 11
-unfoldable pub numbers_at : List ℕ → ℕ → Input
+-- two numbers from `from` on, a space between them and a line feed behind; anything else is refused with 11, BadNumber
+unfoldable pub numbers_at : List ℕ → ℕ → Result Sides Refusal
 unfolding digits_end four_at_most sized
 numbers_at bytes from =
     let space = digits_end bytes from in
@@ -55,9 +57,9 @@ numbers_at bytes from =
     cond (four_at_most bytes from space 32)
     (cond (four_at_most bytes (space + 1) feed 10)
     (sized (value_at bytes from (space - from) 0) (value_at bytes (space + 1) (feed - (space + 1)) 0) (feed + 1))
-    (Refused 11))
-    (Refused 11)
+    (Err BadNumber))
+    (Err BadNumber)
 
-unfoldable pub header_of : List ℕ → Input
+unfoldable pub header_of : List ℕ → Result Sides Refusal
 unfolding numbers_at
-header_of bytes = cond (begins sides_line bytes) (numbers_at bytes 13) (Refused 11)
+header_of bytes = cond (begins sides_line bytes) (numbers_at bytes 13) (Err BadNumber)

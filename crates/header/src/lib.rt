@@ -1,14 +1,16 @@
 // The first two lines of the screen program's input (01, "Screen program"): the sides, and where the pixels begin. It refuses with
-// 11 and 1. Definitions: specs/Header. Laws for callers:
-// proofs/Sides: what sides and places the two lines give.
+// 11 and 1. Definitions: specs/Header; specs/Inner is for the inner functions. Laws for callers:
+// proofs/Shown: what sides and places the two lines give.
 // proofs/Cut: the two lines are found in the front of the input.
 #![tactic(auto)]
 
-ghost use Rattle.std.specs.Prelude.{◌≡◌, ◌+◌, ◌-◌, ◌≤◌, get_or, drop};
-ghost use Rattle.header.specs.Header.{begins, is_digit, digits_end, four_at_most, value_at};
+ghost use Rattle.std.specs.Prelude.{◌≡◌, ◌+◌, ◌-◌, ◌≤◌, ◌<◌, length, drop, IfOk};
+ghost use Rattle.header.specs.Header.{digit_count, digits_end, four_at_most, value_at};
 ghost use Rattle.header.specs.Header.{shown_side, sized, numbers_at, header_of};
+ghost use Rattle.header.specs.Inner.{number_at};
 
 use board::Board;
+use refusal::Refusal;
 
 // The largest side of a screen that the program takes.
 pub const MOST_SHOWN: usize = 64;
@@ -18,95 +20,56 @@ pub const FIRST_LINE: usize = 13;
 
 pub const SECOND_LINE: usize = 10;
 
-// The sides and where the pixels begin, or the number of the refusal.
+// The sides, and where the pixels begin.
 #[derive(Clone, Copy)]
-pub enum Input {
-    Sides {
-        height: usize,
-        width: usize,
-        at: usize,
-    },
-    Refused(u32),
+pub struct Sides {
+    pub height: usize,
+    pub width: usize,
+    pub at: usize,
 }
 
-fn begins_with(line: &[u8], bytes: &[u8]) -> bool
-    ensures { result ≡ begins line.now bytes.now }
-{
-    if bytes.len() < line.len() {
-        return false;
-    }
-    for k in 0..line.len() {
-        if line[k] != bytes[k] {
-            return false;
-        }
-    }
-    true
+// A number, and the place behind its mark.
+#[derive(Clone, Copy)]
+struct Numeral {
+    value: usize,
+    next: usize,
 }
 
-fn is_digit(b: u8) -> bool
-    ensures { result ≡ is_digit b }
+// How many digits the bytes begin with.
+fn digit_count(bytes: &[u8]) -> usize
+    ensures { result ≡ digit_count bytes.now }
 {
-    if b < 48 {
-        return false;
-    }
-    b <= 57
+    bytes.iter().take_while(|b| b.is_ascii_digit()).count()
 }
 
 // The first place from `from` on that has no digit.
+#[tactic(auto, unfolding(crate::specs::Header::digits_end), using(crate::proofs::Numbers::count_in))]
 fn digits_end(bytes: &[u8], from: usize) -> usize
-    ensures { result ≡ digits_end bytes.now from }
+    requires { from ≤ length bytes.now }
+    ensures value { result ≡ digits_end bytes.now from }
+    ensures within { result ≤ length bytes.now }
 {
-    let mut end = from;
-    while end < bytes.len() {
-        if is_digit(bytes[end]) {
-            end += 1;
-        } else {
-            return end;
-        }
-    }
-    end
-}
-
-fn byte_at(bytes: &[u8], at: usize) -> u8
-    ensures { result ≡ get_or bytes.now at 0 }
-{
-    if at < bytes.len() {
-        return bytes[at];
-    }
-    0
+    from + digit_count(&bytes[from..])
 }
 
 // Whether the places from `from` to `end` are one to four, and the byte behind them is the mark.
+#[tactic(auto, unfolding(crate::specs::Header::four_at_most))]
 fn four_at_most(bytes: &[u8], from: usize, end: usize, mark: u8) -> bool
     requires { from ≤ 65536 }
     ensures { result ≡ four_at_most bytes.now from end mark }
 {
-    if end <= from {
-        return false;
-    }
-    if from + 4 < end {
-        return false;
-    }
-    byte_at(bytes, end) == mark
-}
-
-fn digit_of(b: u8) -> usize
-    ensures { (result ≡ b - 48) × (result ≤ 207) }
-{
-    if b < 48 {
-        return 0;
-    }
-    b as usize - 48
+    from < end && end <= from + 4 && bytes.get(end).copied().unwrap_or(0) == mark
 }
 
 // The number written from `from` to `end`.
 fn number(bytes: &[u8], from: usize, end: usize) -> usize
-    requires { (from ≤ end) × (end ≤ from + 4) }
+    requires order { (from ≤ end) × (end ≤ from + 4) }
+    requires inside { end ≤ length bytes.now }
     ensures { result ≡ value_at bytes.now from (end - from) 0 }
 {
     let mut value = 0;
-    for k in from..end {
-        value = 10 * value + digit_of(byte_at(bytes, k));
+    for b in &bytes[from..end] {
+        value = 10 * value + usize::from(b.saturating_sub(b'0'));
     }
     value
 }
@@ -114,62 +77,60 @@ fn number(bytes: &[u8], from: usize, end: usize) -> usize
 fn shown_side(side: usize) -> bool
     ensures { result ≡ shown_side side }
 {
-    if side < Board::LEAST_SIDE {
-        return false;
-    }
-    side <= MOST_SHOWN
+    (Board::LEAST_SIDE..=MOST_SHOWN).contains(&side)
 }
 
-fn sized_of(height: usize, width: usize, at: usize) -> Input
+#[tactic(auto, unfolding(crate::specs::Header::sized))]
+fn sized_of(height: usize, width: usize, at: usize) -> Result<Sides, Refusal>
     ensures { result ≡ sized height width at }
 {
-    if shown_side(height) {
-        if shown_side(width) {
-            return Input::Sides {
-                height: height,
-                width: width,
-                at: at,
-            };
-        }
+    if !(shown_side(height) && shown_side(width)) {
+        return Err(Refusal::BadSide);
     }
-    Input::Refused(1)
+    Ok(Sides { height, width, at })
 }
 
-fn numbers_at(bytes: &[u8], from: usize) -> Input
-    requires { from ≤ 65000 }
+// The number from `from` on: one to four digits, and the mark behind them.
+#[tactic(auto, unfolding(crate::specs::Inner::number_at))]
+fn number_at(bytes: &[u8], from: usize, mark: u8) -> Result<Numeral, Refusal>
+    requires { (from ≤ length bytes.now) × (from ≤ 65000) × (0 < mark) }
+    ensures value { result ≡ number_at bytes.now from mark }
+    ensures next_in { IfOk result (λ n. (n.next ≤ length bytes.now) × (n.next ≤ from + 5)) }
+{
+    let end = digits_end(bytes, from);
+    if !four_at_most(bytes, from, end, mark) {
+        return Err(Refusal::BadNumber);
+    }
+    Ok(Numeral {
+        value: number(bytes, from, end),
+        next: end + 1,
+    })
+}
+
+#[tactic(auto, using(crate::proofs::Numbers::numbers_read))]
+fn numbers_at(bytes: &[u8], from: usize) -> Result<Sides, Refusal>
+    requires { (from ≤ length bytes.now) × (from ≤ 60000) }
     ensures { result ≡ numbers_at bytes.now from }
 {
-    let space = digits_end(bytes, from);
-    if four_at_most(bytes, from, space, 32) {
-        let second = space + 1;
-        let feed = digits_end(bytes, second);
-        if four_at_most(bytes, second, feed, 10) {
-            return sized_of(
-                number(bytes, from, space),
-                number(bytes, second, feed),
-                feed + 1,
-            );
-        }
-    }
-    Input::Refused(11)
+    let height = number_at(bytes, from, b' ')?;
+    let width = number_at(bytes, height.next, b'\n')?;
+    sized_of(height.value, width.value, width.next)
 }
 
 // The sides and the place of the pixels from the first two lines. It refuses with 11 and 1.
-pub fn header(bytes: &[u8]) -> Input
+#[tactic(auto, unfolding(crate::specs::Header::header_of), using(crate::proofs::Prefix::begins_is))]
+pub fn header(bytes: &[u8]) -> Result<Sides, Refusal>
     ensures { result ≡ header_of bytes.now }
 {
-    if begins_with(b"height width\n", bytes) {
-        return numbers_at(bytes, FIRST_LINE);
+    if !bytes.starts_with(b"height width\n") {
+        return Err(Refusal::BadNumber);
     }
-    Input::Refused(11)
+    numbers_at(bytes, FIRST_LINE)
 }
 
 // What stands behind the first two lines.
 pub fn pixels<'a>(bytes: &'a [u8], at: usize) -> &'a [u8]
     ensures { result.now ≡ drop at bytes.now }
 {
-    if at < bytes.len() {
-        return &bytes[at..];
-    }
-    &bytes[0..0]
+    &bytes[at.min(bytes.len())..]
 }
