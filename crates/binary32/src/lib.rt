@@ -9,6 +9,8 @@
 #![tactic(auto)]
 
 ghost use Rattle.std.specs.Prelude.{◌≡◌, not, T, is_nan};
+ghost use Rattle.std.specs.Float.{binary32};
+ghost use Rattle.std.specs.Float.Ieee.{to_bits};
 ghost use Rattle.binary32.specs.Binary32 as Spec;
 ghost use Rattle.binary32.specs.Inner as Inner;
 
@@ -56,4 +58,12 @@ pub fn trunc(x: f32) -> u64
     } else {
         0
     }
+}
+
+// The bits; of what is no number, the largest u32, which no number has.
+pub fn bits(x: f32) -> u32
+    ensures number { T (not (is_nan x)) → result ≡ to_bits binary32 x }
+    ensures none { T (is_nan x) → result ≡ 4294967295 }
+{
+    if x.is_nan() { u32::MAX } else { x.to_bits() }
 }

@@ -1,5 +1,5 @@
-// The C interface: include/folgutan.h documents it. Each function carries the contract of the one that it wraps; a reading
-// crosses as a struct, `reading::Line`. It asks nothing of its caller beyond valid slices that do not overlap.
+// The C interface: include/folgutan.h documents it. Each function carries the contract of the one that it wraps; a result crosses as
+// the struct, or the number, that C has for it. It asks nothing of its caller beyond valid slices that do not overlap.
 #![tactic(auto)]
 
 ghost use Rattle.load.specs.Load.{most_byte, LoadGives};
@@ -15,7 +15,7 @@ use board::Board;
 use load::Loaded;
 use locate::Located;
 use map::Printed;
-use reading::{Line, Reading};
+use reading::Line;
 
 #[unsafe(no_mangle)]
 pub extern "C" fn folgutan_load(
@@ -26,7 +26,7 @@ pub extern "C" fn folgutan_load(
 ) -> Loaded
     ensures { LoadGives most_byte height width pixels.now planes.old result planes.new }
 {
-    load::new(height, width, pixels, planes)
+    Loaded::from(load::new(height, width, pixels, planes))
 }
 
 #[unsafe(no_mangle)]
@@ -38,7 +38,7 @@ pub extern "C" fn folgutan_gradient(
 ) -> u32
     ensures { GradientGives height width planes.now out.old result out.new }
 {
-    gradient::get_gradient(height, width, planes, out)
+    refusal::answer_of(gradient::get_gradient(height, width, planes, out))
 }
 
 #[unsafe(no_mangle)]
@@ -74,28 +74,7 @@ pub extern "C" fn folgutan_locate(
 pub extern "C" fn folgutan_read_line(list: &[u32], scratch: &mut [u32]) -> Line
     ensures { LineGives list.now scratch.old result scratch.new }
 {
-    let reading = reading::get_line(list, scratch);
-    match reading {
-        Reading::Read {
-            pitch,
-            offset,
-            count,
-            votes,
-        } => Line {
-            answer: 0,
-            pitch: pitch,
-            offset: offset,
-            count: count,
-            votes: votes,
-        },
-        Reading::Refused(n) => Line {
-            answer: n,
-            pitch: 0.0,
-            offset: 0,
-            count: 0,
-            votes: 0,
-        },
-    }
+    Line::from(reading::get_line(list, scratch))
 }
 
 #[unsafe(no_mangle)]
@@ -109,12 +88,12 @@ pub extern "C" fn folgutan_sample(
 ) -> u32
     ensures { SampleGives b planes.now x y size out.old result out.new }
 {
-    sample::extra_save_cell(b, planes, x, y, size, out)
+    refusal::answer_of(sample::extra_save_cell(b, planes, x, y, size, out))
 }
 
 #[unsafe(no_mangle)]
 pub extern "C" fn folgutan_map(b: Board, planes: &[f32], out: &mut [u8]) -> Printed
     ensures { MapGives b planes.now out.old result out.new }
 {
-    map::print_map(b, planes, out)
+    Printed::from(map::print_map(b, planes, out))
 }

@@ -17,23 +17,12 @@ ghost use Rattle.bounds.specs.Inner.{marks_by};
 ghost use Rattle.strips.specs.Strip.{column_scores, row_scores};
 ghost use Rattle.strips.specs.Inner.{place_count, Scorable};
 ghost use Rattle.sample.specs.Inner.{CellGives};
-ghost use Rattle.folgutan_inner.specs.Inner.{as_bounds};
 ghost use Rattle.std.specs.Float.Ieee.{is_nan};
 ghost use Rattle.binary32.specs.Binary32 as Binary32;
 ghost use Rattle.rank.specs.Rank.{self, entry};
 ghost use Rattle.rank.specs.Inner.{count_at_most};
 
-use board::{Board, Bounds};
-
-// The bounds as C has them.
-#[repr(C)]
-#[derive(Clone, Copy)]
-pub struct Corners {
-    pub r_1: usize,
-    pub r_2: usize,
-    pub c_1: usize,
-    pub c_2: usize,
-}
+use board::{Board, Bounds, Factor};
 
 #[unsafe(no_mangle)]
 pub extern "C" fn folgutan_inner_unit(x: f32) -> bool
@@ -114,32 +103,15 @@ pub extern "C" fn folgutan_inner_narrow(
     ensures planes_after { planes.new ≡ Narrow.narrow f height width planes.old }
     ensures scratch_unchanged { drop (height * width) scratch.new ≡ drop (height * width) scratch.old }
 {
-    narrow::narrow(f, height, width, planes, scratch)
+    narrow::narrow(Factor { value: f }, height, width, planes, scratch)
 }
 
 #[unsafe(no_mangle)]
-pub extern "C" fn folgutan_inner_bounds(g: &[f32], th: f32, row: usize, column: usize) -> Corners
+pub extern "C" fn folgutan_inner_bounds(g: &[f32], th: f32, row: usize, column: usize) -> Bounds
     requires { (1 ≤ row) × (row ≤ 4094) × (1 ≤ column) × (column ≤ 4094) × (row * column ≤ length g.now) }
-    ensures { as_bounds result ≡ bounds_of (points column 1 (marks_by th g.now)) row column }
+    ensures { result ≡ bounds_of (points column 1 (marks_by th g.now)) row column }
 {
-    let b = bounds::get_r12c12(g, th, row, column);
-    Corners {
-        r_1: b.r_1,
-        r_2: b.r_2,
-        c_1: b.c_1,
-        c_2: b.c_2,
-    }
-}
-
-fn bounds_of(c: Corners) -> Bounds
-    ensures { result ≡ as_bounds c }
-{
-    Bounds {
-        r_1: c.r_1,
-        r_2: c.r_2,
-        c_1: c.c_1,
-        c_2: c.c_2,
-    }
+    bounds::get_r12c12(g, th, row, column)
 }
 
 #[unsafe(no_mangle)]
@@ -148,48 +120,42 @@ pub extern "C" fn folgutan_inner_widen(
     stride: usize,
     row: usize,
     column: usize,
-    b: Corners,
-) -> Corners
+    b: Bounds,
+) -> Bounds
     requires { (3 ≤ row) × (row ≤ 4094) × (3 ≤ column) × (column ≤ 4094) × (column ≤ stride) × (row * stride ≤ length edges.now)
-        × BoundsIn row column (as_bounds b) }
-    ensures { as_bounds result ≡ BoundsSpec.widen (points stride 1 edges.now) row column (as_bounds b) }
+        × BoundsIn row column b }
+    ensures { result ≡ BoundsSpec.widen (points stride 1 edges.now) row column b }
 {
-    let w = bounds::widen(edges, stride, row, column, bounds_of(b));
-    Corners {
-        r_1: w.r_1,
-        r_2: w.r_2,
-        c_1: w.c_1,
-        c_2: w.c_2,
-    }
+    bounds::widen(edges, stride, row, column, b)
 }
 
 #[unsafe(no_mangle)]
 pub extern "C" fn folgutan_inner_column_scores(
     edges: &[u8],
     stride: usize,
-    b: Corners,
+    b: Bounds,
     out: &mut [u32],
 )
-    requires { Scorable edges.now stride (as_bounds b) × (place_count b.c_1 b.c_2 ≤ length out.old) }
-    ensures { AtFront (column_scores (points stride 1 edges.now) (as_bounds b)) out.old out.new }
+    requires { Scorable edges.now stride b × (place_count b.c_1 b.c_2 ≤ length out.old) }
+    ensures { AtFront (column_scores (points stride 1 edges.now) b) out.old out.new }
 {
-    strips::column_scores(edges, stride, bounds_of(b), out)
+    strips::column_scores(edges, stride, b, out)
 }
 
 #[unsafe(no_mangle)]
 pub extern "C" fn folgutan_inner_row_scores(
     edges: &[u8],
     stride: usize,
-    b: Corners,
+    b: Bounds,
     turned: &mut [u8],
     out: &mut [u32],
 )
-    requires { Scorable edges.now stride (as_bounds b)
+    requires { Scorable edges.now stride b
         × ((b.c_2 - b.c_1 + 1) * place_count b.r_1 b.r_2 ≤ length turned.old)
         × (place_count b.r_1 b.r_2 ≤ length out.old) }
-    ensures { AtFront (row_scores (points stride 1 edges.now) (as_bounds b)) out.old out.new }
+    ensures { AtFront (row_scores (points stride 1 edges.now) b) out.old out.new }
 {
-    strips::row_scores(edges, stride, bounds_of(b), turned, out)
+    strips::row_scores(edges, stride, b, turned, out)
 }
 
 #[unsafe(no_mangle)]
@@ -204,5 +170,5 @@ pub extern "C" fn folgutan_inner_sample(
     requires { 3 * (b.height * b.width) ≤ length planes.now }
     ensures { CellGives b planes.now x y size out.old result out.new }
 {
-    sample::cell_of(b, planes, x, y, size, out)
+    refusal::answer_of(sample::cell_of(b, planes, x, y, size, out))
 }

@@ -4,11 +4,6 @@
 
 use std::io;
 
-// The bits; of what is no number, which no plane holds, the largest u32.
-fn bits(x: f32) -> u32 {
-    if x != x { 4294967295 } else { f32::to_bits(x) }
-}
-
 // The pixel n of the screen has the bytes n, 255 - n, 7 n and 13 n, the last two without what is above a byte.
 fn drawn() -> [u8; 1024] {
     let mut pixels: [u8; 1024] = [0; 1024];
@@ -24,7 +19,7 @@ fn drawn() -> [u8; 1024] {
 // The values of one plane, or of none, each in a line of its own.
 fn show(rt: &impl Print, plane: &[f32]) -> io::Result<()> {
     for x in plane {
-        println!(rt; "{}", bits(*x))?;
+        println!(rt; "{}", binary32::bits(*x))?;
     }
     Ok(())
 }
@@ -32,14 +27,13 @@ fn show(rt: &impl Print, plane: &[f32]) -> io::Result<()> {
 fn main(rt: HostRuntime) -> io::Result<()> {
     let pixels = drawn();
     let mut planes: [f32; 768] = [0.0; 768];
-    let loaded = load::new(16, 16, &pixels, &mut planes);
     println!(rt; "load 16 16")?;
-    if loaded.answer != 0 {
-        return println!(rt; "{}", loaded.answer);
+    if let Err(refusal) = load::new(16, 16, &pixels, &mut planes) {
+        return println!(rt; "{}", u32::from(refusal));
     }
-    show(&rt, board::channel(16, 16, &planes, 0))?;
-    show(&rt, board::channel(16, 16, &planes, 1))?;
-    show(&rt, board::channel(16, 16, &planes, 2))?;
-    // No plane: an empty part, which adds no line.
-    show(&rt, board::channel(16, 16, &planes, 3))
+    // There is no plane 3: an empty part, which adds no line.
+    for k in 0..4 {
+        show(&rt, board::channel(16, 16, &planes, k))?;
+    }
+    Ok(())
 }

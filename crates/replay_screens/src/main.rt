@@ -4,8 +4,6 @@
 // The screens are too small to be read after a narrowing by 4 or 5: with these what is narrowed answers 5.
 #![tactic(auto)]
 
-ghost use Rattle.std.specs.Prelude.{◌<◌};
-
 use board::Board;
 use locate::Located;
 use std::io::{self, Read};
@@ -13,17 +11,12 @@ use std::io::{self, Read};
 // The longest side of a stored screen.
 const MOST: usize = 210;
 
-// The bits of a pitch or of a plane value; of what is no number, which neither is, the largest u32.
-fn bits(x: f32) -> u32 {
-    if x != x { 4294967295 } else { f32::to_bits(x) }
-}
-
 // The bits of a plane value, after a blank. The planes are never so short that 0 is printed for it.
 fn value(rt: &impl Print, planes: &[f32], at: usize) -> io::Result<()> {
     if planes.len() <= at {
         return print!(rt; " 0");
     }
-    print!(rt; " {}", bits(planes[at]))
+    print!(rt; " {}", binary32::bits(planes[at]))
 }
 
 // The record, each number after a blank.
@@ -38,8 +31,8 @@ fn record(rt: &impl Print, b: Board) -> io::Result<()> {
         b.c0,
         b.r,
         b.c,
-        bits(b.pixelr),
-        bits(b.pixelc)
+        binary32::bits(b.pixelr),
+        binary32::bits(b.pixelc)
     )
 }
 
@@ -54,171 +47,80 @@ fn show(rt: &impl Print, l: Located, planes: &[f32]) -> io::Result<()> {
     println!(rt; "")
 }
 
-fn wide(b: u8) -> usize
-    ensures { result < 256 }
-{
-    b as usize
+// The largest screen, its planes, and what locating takes beside them.
+struct Buffers {
+    pixels: [u8; 4 * MOST * MOST],
+    planes: [f32; 3 * MOST * MOST],
+    edges: [u8; MOST * MOST],
+    scores: [u32; 2 * MOST],
+    scratch_f32: [f32; MOST * MOST],
+    scratch_u8: [u8; MOST * MOST],
+    scratch_u32: [u32; 8 * MOST],
 }
 
-// Reads the pixels of a screen; false where a side is too large, or pixels are missing.
-fn read_pixels<R: Read>(from: &mut R, height: usize, width: usize, pixels: &mut [u8]) -> bool {
-    if MOST < height {
-        return false;
-    }
-    if MOST < width {
-        return false;
-    }
-    let n = 4 * (height * width);
-    if pixels.len() < n {
-        return false;
-    }
-    stream::read_full(from, &mut pixels[..n]) == Ok(n)
-}
-
-// Loads a screen, locates its board by the factor and prints the line. The record of a screen that does not load is zeros, which
-// locating refuses.
-fn replay(
-    rt: &impl Print,
-    factor: usize,
-    height: usize,
-    width: usize,
-    pixels: &[u8],
-    planes: &mut [f32],
-    edges: &mut [u8],
-    scores: &mut [u32],
-    scratch_f32: &mut [f32],
-    scratch_u8: &mut [u8],
-    scratch_u32: &mut [u32],
-) -> io::Result<()> {
-    let loaded = load::new(height, width, pixels, planes);
-    let l = locate::get_pos_pixel(
-        loaded.board,
-        factor,
-        planes,
-        edges,
-        scores,
-        scratch_f32,
-        scratch_u8,
-        scratch_u32,
-    );
-    show(rt, l, planes)
-}
-
-// A screen by each factor.
-fn replay_each(
-    rt: &impl Print,
-    height: usize,
-    width: usize,
-    pixels: &[u8],
-    planes: &mut [f32],
-    edges: &mut [u8],
-    scores: &mut [u32],
-    scratch_f32: &mut [f32],
-    scratch_u8: &mut [u8],
-    scratch_u32: &mut [u32],
-) -> io::Result<()> {
-    for factor in Board::LEAST_FACTOR..Board::MOST_FACTOR + 1 {
-        replay(
-            rt,
+impl Buffers {
+    // Loads a screen, locates its board by the factor and prints the line. The record of a screen that does not load is zeros, which
+    // locating refuses.
+    fn replay(
+        &mut self,
+        rt: &impl Print,
+        factor: usize,
+        height: usize,
+        width: usize,
+    ) -> io::Result<()> {
+        let board = load::new(height, width, &self.pixels, &mut self.planes)
+            .unwrap_or(Board::fresh(0, 0));
+        let l = locate::get_pos_pixel(
+            board,
             factor,
-            height,
-            width,
-            pixels,
-            planes,
-            edges,
-            scores,
-            scratch_f32,
-            scratch_u8,
-            scratch_u32,
-        )?;
+            &mut self.planes,
+            &mut self.edges,
+            &mut self.scores,
+            &mut self.scratch_f32,
+            &mut self.scratch_u8,
+            &mut self.scratch_u32,
+        );
+        show(rt, l, &self.planes)
     }
-    Ok(())
-}
 
-// Replays the next screen; false where no whole screen is left.
-fn replayed<R: Read>(
-    rt: &impl Print,
-    from: &mut R,
-    pixels: &mut [u8],
-    planes: &mut [f32],
-    edges: &mut [u8],
-    scores: &mut [u32],
-    scratch_f32: &mut [f32],
-    scratch_u8: &mut [u8],
-    scratch_u32: &mut [u32],
-) -> io::Result<bool> {
-    let mut sides = [0u8; 4];
-    if stream::read_full(from, &mut sides) != Ok(4) {
-        return Ok(false);
+    // Replays the next screen by each factor; false where no whole screen is left.
+    fn replay_next<R: Read>(&mut self, rt: &impl Print, from: &mut R) -> io::Result<bool> {
+        let mut sides = [0u8; 4];
+        if stream::read_full(from, &mut sides) != Ok(4) {
+            return Ok(false);
+        }
+        let height = usize::from(sides[0]) + 256 * usize::from(sides[1]);
+        let width = usize::from(sides[2]) + 256 * usize::from(sides[3]);
+        if MOST < height || MOST < width {
+            return Ok(false);
+        }
+        let n = 4 * (height * width);
+        if stream::read_full(from, &mut self.pixels[..n]) != Ok(n) {
+            return Ok(false);
+        }
+        for factor in Board::LEAST_FACTOR..Board::MOST_FACTOR + 1 {
+            self.replay(rt, factor, height, width)?;
+        }
+        Ok(true)
     }
-    let height = wide(sides[0]) + 256 * wide(sides[1]);
-    let width = wide(sides[2]) + 256 * wide(sides[3]);
-    if !read_pixels(from, height, width, pixels) {
-        return Ok(false);
-    }
-    replay_each(
-        rt,
-        height,
-        width,
-        pixels,
-        planes,
-        edges,
-        scores,
-        scratch_f32,
-        scratch_u8,
-        scratch_u32,
-    )?;
-    Ok(true)
 }
 
 // All screens, at most a hundred.
-fn replay_all<R: Read>(
-    rt: &impl Print,
-    from: &mut R,
-    pixels: &mut [u8],
-    planes: &mut [f32],
-    edges: &mut [u8],
-    scores: &mut [u32],
-    scratch_f32: &mut [f32],
-    scratch_u8: &mut [u8],
-    scratch_u32: &mut [u32],
-) -> io::Result<()> {
+fn main(rt: HostRuntime) -> io::Result<()> {
+    let mut input = rt.reader();
+    let mut buffers = Buffers {
+        pixels: [0; 4 * MOST * MOST],
+        planes: [0.0; 3 * MOST * MOST],
+        edges: [0; MOST * MOST],
+        scores: [0; 2 * MOST],
+        scratch_f32: [0.0; MOST * MOST],
+        scratch_u8: [0; MOST * MOST],
+        scratch_u32: [0; 8 * MOST],
+    };
     for _ in 0..100 {
-        if !replayed(
-            rt,
-            from,
-            pixels,
-            planes,
-            edges,
-            scores,
-            scratch_f32,
-            scratch_u8,
-            scratch_u32,
-        )? {
+        if !buffers.replay_next(&rt, &mut input)? {
             break;
         }
     }
     Ok(())
-}
-
-fn main(rt: HostRuntime) -> io::Result<()> {
-    let mut input = rt.reader();
-    let mut pixels: [u8; 176400] = [0; 176400];
-    let mut planes: [f32; 132300] = [0.0; 132300];
-    let mut edges: [u8; 44100] = [0; 44100];
-    let mut scores: [u32; 420] = [0; 420];
-    let mut scratch_f32: [f32; 44100] = [0.0; 44100];
-    let mut scratch_u8: [u8; 44100] = [0; 44100];
-    let mut scratch_u32: [u32; 1680] = [0; 1680];
-    replay_all(
-        &rt,
-        &mut input,
-        &mut pixels,
-        &mut planes,
-        &mut edges,
-        &mut scores,
-        &mut scratch_f32,
-        &mut scratch_u8,
-        &mut scratch_u32,
-    )
 }

@@ -17,7 +17,10 @@ use Rattle.load.specs.Load.{most_byte, load_answer, LoadGives}
 use Rattle.locate.specs.declared.Located.{Located}
 use Rattle.locate.specs.Locate.{found_in}
 use Rattle.reply.specs.Values.{located, alone}
-use Rattle.header.specs.declared.Input.TheVariants.{Sides, Refused}
+use Rattle.std.specs.Prelude.{Ok, Err}
+use Rattle.refusal.specs.declared.Refusal.{Refusal}
+use Rattle.refusal.specs.Refusal.{number}
+use Rattle.header.specs.declared.Sides.{Sides}
 use Rattle.header.specs.Header.{most_shown, header_of}
 use Rattle.reply.specs.Answer.{factor, values_of, values_for, answer_to}
 use Rattle.reply.proofs.Loading.{planes_of, planes_length, answer_is, planes_are, board_is, planes_fit}
@@ -73,11 +76,11 @@ module _ {h w : ℕ} {pixels : List ℕ} {r : Loaded} {before after : List Float
 
 -- ---- what is printed as the first two lines are read
 
-pub for_sides : (bytes : List ℕ) {pixels : List ℕ} {h w at : ℕ} → header_of bytes ≡ Sides h w at → pixels ≡ drop at bytes
-    → values_of h w pixels ≡ answer_to bytes
+pub for_sides : (bytes : List ℕ) {pixels : List ℕ} {s : Sides} → header_of bytes ≡ Ok s → pixels ≡ drop s.at bytes
+    → values_of s.height s.width pixels ≡ answer_to bytes
 unfolding answer_to values_for
-for_sides bytes {h = h} {w = w} e p = ap (values_of h w) p ∙ sym (ap (values_for bytes) e)
+for_sides bytes {s = s} e p = ap (values_of s.height s.width) p ∙ sym (ap (values_for bytes) e)
 
-pub for_refusal : (bytes : List ℕ) {n : ℕ} → header_of bytes ≡ Refused n → alone n ≡ answer_to bytes
+pub for_refusal : (bytes : List ℕ) {r : Refusal} → header_of bytes ≡ Err r → alone (number r) ≡ answer_to bytes
 unfolding answer_to values_for
 for_refusal bytes e = sym (ap (values_for bytes) e)

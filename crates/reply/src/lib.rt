@@ -14,7 +14,7 @@ ghost use Rattle.reply.specs.Values.{text_of, text_room};
 ghost use Rattle.reply.specs.Answer.{factor, values_of, answer_to, room};
 
 use board::Board;
-use header::{FIRST_LINE, Input, MOST_SHOWN, SECOND_LINE};
+use header::{FIRST_LINE, MOST_SHOWN, SECOND_LINE};
 use locate::Located;
 
 // Entries for the largest screen: its pixels, its planes, its two sides together.
@@ -97,11 +97,10 @@ fn values_of(height: usize, width: usize, pixels: &[u8]) -> [u64; VALUES]
 {
     let mut planes: [f32; PLANES] = [0.0; PLANES];
     let n = 3 * (height * width);
-    let loaded = load::new(height, width, pixels, &mut planes[..n]);
-    if loaded.answer != 0 {
-        return alone(loaded.answer);
+    match load::new(height, width, pixels, &mut planes[..n]) {
+        Ok(board) => located(locate_shown(board, &mut planes[..n])),
+        Err(refusal) => alone(u32::from(refusal)),
     }
-    located(locate_shown(loaded.board, &mut planes[..n]))
 }
 
 // What is printed for the bytes of the input.
@@ -109,8 +108,8 @@ fn answer_to(bytes: &[u8]) -> [u64; VALUES]
     ensures { result ≡ answer_to bytes.now }
 {
     match header::header(bytes) {
-        Input::Sides { height, width, at } => values_of(height, width, header::pixels(bytes, at)),
-        Input::Refused(n) => alone(n),
+        Ok(sides) => values_of(sides.height, sides.width, header::pixels(bytes, sides.at)),
+        Err(refusal) => alone(u32::from(refusal)),
     }
 }
 
