@@ -7,8 +7,8 @@ use mathlib.Core.List.{List}
 use native.Mathlib.Nat.{add-mul, mul_assoc, mul-le-mul_left, mul-le-mul_right, div-add-mod', div-mul-le_self}
 use native.Mathlib.Omega.{arith}
 use borrow.Author.Tests.{ltb-true, ltb-false}
-use lib.Dec.{ltb}
-use lib.Ieee.{Float, nan, binary32, of_bits, to_bits}
+use lib.Dec.{T, ltb}
+use lib.Ieee.{Float, nan, binary32, fits, of_bits, to_bits}
 use lib.ListN.{length, take, get_or, replicate}
 use lib.Seq.{length-take-le, get_or-take}
 use Rattle.lists.specs.Front.{AtFront}
@@ -16,12 +16,13 @@ use Rattle.lists.proofs.Front.{same_at, same_beyond}
 use Rattle.lists.proofs.Grid.{row_fits}
 use Rattle.lists.proofs.Tab.{tab_same}
 use Rattle.binary32.specs.Binary32.{unit}
+use Rattle.binary32.specs.Inner.{IsUnit}
 use Rattle.rank.specs.Rank.{ranked}
 use Rattle.board.specs.Screen.{view}
 use Rattle.board.specs.Inner.{FitPlanes}
 use Rattle.board.proofs.Units.{units_all}
 use Rattle.narrow.specs.Narrow.{median, narrowed}
-use Rattle.narrow.specs.Inner.{row_of}
+use Rattle.narrow.specs.Inner.{row_of, UnitPlanes}
 use Rattle.narrow.proofs.Block.{unit_at}
 
 abbrev pub zero32 : Float
@@ -31,21 +32,23 @@ zero32 = of_bits binary32 0
 abbrev pub Cleared : ℕ → List Float → List Float → Type 0
 Cleared n before after = AtFront (replicate n zero32) before after
 
-pub cleared_fit : (n : ℕ) {h w : ℕ} {lent out : List Float} → Cleared n lent out → FitPlanes 0 h w lent → FitPlanes 0 h w out
-unfolding unit to_bits of_bits
-cleared_fit n {h} {w} {lent} {out} x p =
-    let there : 3 * (h * w) ≤ length out = omega (arith, x.len, p.there) in
-    let long = length-take-le (3 * (h * w)) out there in
-    record {
-      sides = p.sides;
-      there = there;
-      units = units_all (take (3 * (h * w)) out)
-          (λ q l. rw (get_or-take (3 * (h * w)) out q nan (omega (arith, long))) (at q (omega (arith, long)) (ltb q n) refl));
-    }
+-- a unit of the format each
+pub units_of : {h w : ℕ} {planes : List Float} → FitPlanes 0 h w planes → ((q : ℕ) → T (fits binary32 (get_or planes q nan)))
+    → UnitPlanes h w planes
+units_of p floats =
+    record { sides = p.sides; there = p.there; units = λ q l. record { fit = floats q; small = unit_at p q l } }
+
+zero_unit : IsUnit zero32
+unfolding unit fits to_bits of_bits
+zero_unit = record { fit = tt; small = refl }
+
+pub cleared_units : (n : ℕ) {h w : ℕ} {lent out : List Float} → Cleared n lent out → UnitPlanes h w lent → UnitPlanes h w out
+cleared_units n {h} {w} {lent} {out} x p =
+    record { sides = p.sides; there = omega (arith, x.len, p.there); units = λ q l. at q l (ltb q n) refl }
   where
-    at : (q : ℕ) → q < 3 * (h * w) → (t : Bool) → ltb q n ≡ t → unit (get_or out q nan) ≡ true
-    at q l true e = rw (same_at zero32 nan n x q (ltb-true q n e)) refl
-    at q l false e = rw (same_beyond zero32 nan n x q (ltb-false q n e)) (unit_at p q l)
+    at : (q : ℕ) → q < 3 * (h * w) → (t : Bool) → ltb q n ≡ t → IsUnit (get_or out q nan)
+    at q l true e = rw (same_at zero32 nan n x q (ltb-true q n e)) zero_unit
+    at q l false e = rw (same_beyond zero32 nan n x q (ltb-false q n e)) (p.units q l)
 
 -- what row r of the points is made of lies past the r · f · w values that are cleared before it
 lag : (f h w r u : ℕ) → let n = h / f in r * (f * w) ≤ r / n * (h * w) + (r % n * f + u) * w

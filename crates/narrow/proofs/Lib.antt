@@ -2,4 +2,4 @@ pub mod Block
 pub mod Gathering
 pub mod Clearing
 pub mod Laws
-pub mod Packed
+pub mod Rows

@@ -105,6 +105,7 @@ impl Blocks<'_> {
 
 // The narrowed planes, one after another, row by row. Rows of the planes are cleared once they were read, while the processor has them
 // at hand: clearing in a pass of its own would fetch them again. Where rows are left over, what is cleared lags behind what was read.
+#[tactic(auto, using(crate::proofs::Rows::row_in, crate::proofs::Clearing::bands_in, crate::proofs::Clearing::band_in))]
 fn narrow_planes(
     factor: Factor,
     height: usize,
@@ -139,6 +140,7 @@ fn narrow_planes(
 }
 
 // Narrows the planes by the factor. The first height · width entries of `scratch` are free afterwards.
+#[tactic(auto, using(crate::proofs::Rows::shrinks))]
 pub fn narrow(
     factor: Factor,
     height: usize,
