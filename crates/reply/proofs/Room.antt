@@ -18,11 +18,12 @@ use Rattle.board.specs.Board.{fresh}
 use Rattle.board.specs.Screen.{packed}
 use Rattle.load.specs.Load.{most_byte, level, shown, load_answer}
 use Rattle.locate.specs.Locate.{found_in}
-use Rattle.header.specs.declared.Input.{Input}
-use Rattle.header.specs.declared.Input.TheVariants.{Sides, Refused}
+use Rattle.std.specs.Prelude.{Result, Ok, Err}
+use Rattle.refusal.specs.declared.Refusal.{Refusal}
+use Rattle.header.specs.declared.Sides.{Sides}
 use Rattle.header.specs.Header.{header_of}
 use Rattle.header.proofs.Cut.{header_front}
-use Rattle.header.proofs.Sides.{Shown, header_shown}
+use Rattle.header.proofs.Shown.{Shown, header_shown}
 use Rattle.reply.specs.Values.{located, alone}
 use Rattle.reply.specs.Answer.{factor, values_of, values_for, answer_to, room}
 use Rattle.reply.proofs.Locating.{area}
@@ -62,6 +63,7 @@ pub enough : (input : List ℕ) → answer_to (take room input) ≡ answer_to in
 unfolding answer_to values_for
 enough input = rw (header_front input room (omega arith)) (go (header_of input) (header_shown input))
   where
-    go : (i : Input) → Shown 23 i → values_for (take room input) i ≡ values_for input i
-    go (Sides h w at) (a, b, l) = rw (drop_take at room input) (values_front h w (drop at input) (room - at) (omega (arith, area a b)))
-    go (Refused n) s = refl
+    go : (i : Result Sides Refusal) → Shown 23 i → values_for (take room input) i ≡ values_for input i
+    go (Ok s) (a, b, l) =
+        rw (drop_take s.at room input) (values_front s.height s.width (drop s.at input) (room - s.at) (omega (arith, area a b)))
+    go (Err r) s = refl

@@ -1,11 +1,12 @@
 -- 01, "Screen program": the values that are printed, from the bytes of the input alone.
-use Rattle.std.specs.Prelude.{ℕ, ◌+◌, ◌*◌, cond, List, eqb, length, drop}
+use Rattle.std.specs.Prelude.{ℕ, ◌+◌, ◌*◌, cond, List, eqb, length, drop, Result, Ok, Err}
 use Rattle.board.specs.Board.{fresh}
 use Rattle.board.specs.Screen.{packed}
 use Rattle.load.specs.Load.{most_byte, shown, load_answer}
 use Rattle.locate.specs.Locate.{found_in}
-use Rattle.header.specs.declared.Input.{Input}
-use Rattle.header.specs.declared.Input.TheVariants.{Sides, Refused}
+use Rattle.refusal.specs.declared.Refusal.{Refusal}
+use Rattle.refusal.specs.Refusal.{number}
+use Rattle.header.specs.declared.Sides.{Sides}
 use Rattle.header.specs.Header.{sides_line, most_shown, header_of}
 use Rattle.reply.specs.Values.{located, alone}
 
@@ -21,10 +22,10 @@ values_of h w pixels =
     cond (eqb answer 0) (located (found_in (fresh h w) factor (packed (shown most_byte h w pixels)))) (alone answer)
 
 -- where the first two lines say this: the pixels stand behind them, and a refusal is printed alone
-unfoldable pub values_for : List ℕ → Input → List ℕ
+unfoldable pub values_for : List ℕ → Result Sides Refusal → List ℕ
 unfolding values_of
-values_for bytes (Sides h w at) = values_of h w (drop at bytes)
-values_for bytes (Refused n) = alone n
+values_for bytes (Ok s) = values_of s.height s.width (drop s.at bytes)
+values_for bytes (Err r) = alone (number r)
 
 -- for the bytes of the input
 unfoldable pub answer_to : List ℕ → List ℕ

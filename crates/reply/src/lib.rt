@@ -14,7 +14,7 @@ ghost use Rattle.reply.specs.Values.{text_of, text_room};
 ghost use Rattle.reply.specs.Answer.{factor, values_of, answer_to, room};
 
 use board::Board;
-use header::{FIRST_LINE, Input, MOST_SHOWN, SECOND_LINE};
+use header::{FIRST_LINE, MOST_SHOWN, SECOND_LINE};
 use locate::Located;
 
 // Entries for the largest screen: its pixels, its planes, its two sides together.
@@ -105,12 +105,13 @@ fn values_of(height: usize, width: usize, pixels: &[u8]) -> [u64; VALUES]
 }
 
 // What is printed for the bytes of the input.
+#[tactic(auto, unfolding(crate::specs::Answer::answer_to, crate::specs::Answer::values_for), using(header::proofs::Shown::header_shown))]
 fn answer_to(bytes: &[u8]) -> [u64; VALUES]
     ensures { result ≡ answer_to bytes.now }
 {
     match header::header(bytes) {
-        Input::Sides { height, width, at } => values_of(height, width, header::pixels(bytes, at)),
-        Input::Refused(n) => alone(n),
+        Ok(sides) => values_of(sides.height, sides.width, header::pixels(bytes, sides.at)),
+        Err(refusal) => alone(u32::from(refusal)),
     }
 }
 
