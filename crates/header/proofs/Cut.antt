@@ -1,7 +1,7 @@
 -- The first two lines are read from the front of the input: a cut behind their longest form changes nothing. Digits that go on past it are
 -- too many with the cut and without. Assumes nothing.
 use Prim.Native.Nat.{ℕ, zero, suc, ◌+◌, ◌-◌, ◌≤◌, ◌<◌}
-use mathlib.Core.Path.{◌≡◌, refl, sym, ap, ◌∙◌}
+use mathlib.Core.Path.{◌≡◌, refl, ap}
 use mathlib.Core.Bool.{Bool, true, false, cond, ◌&&◌}
 use mathlib.Core.List.{List, [], ◌∷◌}
 use mathlib.Core.Logic.{◌⊎◌, inl, inr, ⊎_elim}
@@ -13,8 +13,12 @@ use lib.ListN.{length, take, drop}
 use lib.Seq.{get_or-take}
 use Rattle.lists.proofs.Part.{drop_take}
 use Rattle.board.proofs.Sides.{and_false}
-use Rattle.header.specs.Header.{sides_line, begins, is_digit, digit_count, digits_end, four_at_most, value_at, numbers_at, header_of}
-use Rattle.header.proofs.Numbers.{four_facts, first_bad, second_bad, both_good}
+use Rattle.header.specs.Header.{sides_line, begins, is_digit, digit_count, digits_end, four_at_most, value_at, sized, numbers_at, header_of}
+use Rattle.std.specs.Prelude.{Result, Ok, Err, IfOk}
+use Rattle.refusal.specs.declared.Refusal.{Refusal}
+use Rattle.header.specs.declared.Numeral.{Numeral}
+use Rattle.header.specs.Inner.{number_at, after}
+use Rattle.header.proofs.Numbers.{numbers_read, number_near}
 
 begins_front : (line bytes : List ℕ) (m : ℕ) → length line ≤ m → begins line (take m bytes) ≡ begins line bytes
 begins_front [] bytes m h = refl
@@ -59,59 +63,27 @@ four_front : (bytes : List ℕ) (m from end mark : ℕ) → end < m → four_at_
 unfolding four_at_most
 four_front bytes m from end mark l = rw (get_or-take m bytes end 0 l)
 
-module _ (bytes : List ℕ) (m from : ℕ) (h : from + 10 ≤ m) where
-  -- the first number fills the front
-  first_long : m ≤ digits_end (take m bytes) from → m ≤ digits_end bytes from → numbers_at (take m bytes) from ≡ numbers_at bytes from
-  first_long a b =
-      sym (first_bad (take m bytes) from _ refl (four_long _ from _ 32 (omega arith)))
-      ∙ first_bad bytes from _ refl (four_long bytes from _ 32 (omega arith))
+number_front : (bytes : List ℕ) (m from mark : ℕ) → from + 5 ≤ m → number_at (take m bytes) from mark ≡ number_at bytes from mark
+unfolding number_at
+number_front bytes m from mark h =
+    ⊎_elim
+    (λ q. rw (q.0, four_front bytes m from (digits_end bytes from) mark q.1, value_front bytes m from (digits_end bytes from - from) 0 (omega arith)))
+    (λ q. rw (
+      four_long (take m bytes) from (digits_end (take m bytes) from) mark (omega arith),
+      four_long bytes from (digits_end bytes from) mark (omega arith),
+    ))
+    (ends_front bytes m from (omega arith))
 
-  module _ (space : ℕ) (here : space ≡ digits_end bytes from) (cut : space ≡ digits_end (take m bytes) from) (inside : space < m) where
-    first_wrong : four_at_most bytes from space 32 ≡ false → numbers_at (take m bytes) from ≡ numbers_at bytes from
-    first_wrong e =
-        sym (first_bad (take m bytes) from space cut (four_front bytes m from space 32 inside ∙ e)) ∙ first_bad bytes from space here e
-
-    module _ (good : four_at_most bytes from space 32 ≡ true) where
-      good_cut : four_at_most (take m bytes) from space 32 ≡ true
-      good_cut = four_front bytes m from space 32 inside ∙ good
-
-      -- the second does
-      second_long : m ≤ digits_end (take m bytes) (space + 1) → m ≤ digits_end bytes (space + 1)
-          → numbers_at (take m bytes) from ≡ numbers_at bytes from
-      second_long a b =
-          let f = four_facts bytes from space 32 good in
-          sym (second_bad (take m bytes) from space cut good_cut _ refl (four_long _ (space + 1) _ 10 (omega arith)))
-          ∙ second_bad bytes from space here good _ refl (four_long bytes (space + 1) _ 10 (omega arith))
-
-      module _ (feed : ℕ) (here' : feed ≡ digits_end bytes (space + 1)) (cut' : feed ≡ digits_end (take m bytes) (space + 1))
-          (inside' : feed < m) where
-        second_read : (t : Bool) → four_at_most bytes (space + 1) feed 10 ≡ t → numbers_at (take m bytes) from ≡ numbers_at bytes from
-        second_read false e =
-            sym (second_bad (take m bytes) from space cut good_cut feed cut' (four_front bytes m (space + 1) feed 10 inside' ∙ e))
-            ∙ second_bad bytes from space here good feed here' e
-        second_read true e =
-            let f = four_facts bytes from space 32 good in
-            let g = four_facts bytes (space + 1) feed 10 e in
-            sym (both_good (take m bytes) from space cut good_cut feed cut' (four_front bytes m (space + 1) feed 10 inside' ∙ e))
-            ∙ rw (
-              value_front bytes m from (space - from) 0 (omega arith),
-              value_front bytes m (space + 1) (feed - (space + 1)) 0 (omega arith),
-            )
-            (both_good bytes from space here good feed here' e)
-
-      second : numbers_at (take m bytes) from ≡ numbers_at bytes from
-      second =
-          let f = four_facts bytes from space 32 good in
-          ⊎_elim (λ q. second_read _ refl (sym q.0) q.1 _ refl) (λ q. second_long q.0 q.1)
-          (ends_front bytes m (space + 1) (omega arith))
-
-    first_read : (t : Bool) → four_at_most bytes from space 32 ≡ t → numbers_at (take m bytes) from ≡ numbers_at bytes from
-    first_read false e = first_wrong e
-    first_read true e = second e
-
-  numbers_front : numbers_at (take m bytes) from ≡ numbers_at bytes from
-  numbers_front =
-      ⊎_elim (λ q. first_read _ refl (sym q.0) q.1 _ refl) (λ q. first_long q.0 q.1) (ends_front bytes m from (omega arith))
+numbers_front : (bytes : List ℕ) (m from : ℕ) → from + 10 ≤ m → numbers_at (take m bytes) from ≡ numbers_at bytes from
+numbers_front bytes m from h =
+    rw (numbers_read (take m bytes) from, numbers_read bytes from, number_front bytes m from 32 (omega arith))
+    (go (number_at bytes from 32) (number_near bytes from 32))
+  where
+    go : (n : Result Numeral Refusal) → IfOk n (λ h. h.next ≤ from + 5)
+        → after n (λ h. after (number_at (take m bytes) h.next 10) (λ w. sized h.value w.value w.next))
+        ≡ after n (λ h. after (number_at bytes h.next 10) (λ w. sized h.value w.value w.next))
+    go (Ok n) l = rw (number_front bytes m n.next 10 (omega arith))
+    go (Err r) l = refl
 
 -- the first line has 13 bytes, the second at most 10
 pub header_front : (bytes : List ℕ) (m : ℕ) → 23 ≤ m → header_of (take m bytes) ≡ header_of bytes

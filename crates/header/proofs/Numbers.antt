@@ -11,7 +11,7 @@ use Rattle.std.specs.List.{prefix_len}
 use borrow.Author.Tests.{ltb-true, leb-true}
 use lib.Dec.{leb, ltb}
 use Rattle.board.proofs.Sides.{both}
-use Rattle.std.specs.Prelude.{Result, Ok, Err}
+use Rattle.std.specs.Prelude.{Result, Ok, Err, IfOk}
 use Rattle.refusal.specs.declared.Refusal.{Refusal}
 use Rattle.header.specs.declared.Numeral.{Numeral}
 use Rattle.header.specs.declared.Sides.{Sides}
@@ -67,22 +67,6 @@ four_facts bytes from end mark e =
     let second = both (leb end (from + 4)) _ first.1 in
     (ltb-true _ _ first.0, leb-true _ _ second.0)
 
--- the three ways to read two numbers
-module _ (bytes : List ℕ) (from space : ℕ) (s : space ≡ digits_end bytes from) where
-  pub first_bad : four_at_most bytes from space 32 ≡ false → Err BadNumber ≡ numbers_at bytes from
-  unfolding numbers_at
-  first_bad e = rw (← s, e)
-
-  module _ (good : four_at_most bytes from space 32 ≡ true) (feed : ℕ) (f : feed ≡ digits_end bytes (space + 1)) where
-    pub second_bad : four_at_most bytes (space + 1) feed 10 ≡ false → Err BadNumber ≡ numbers_at bytes from
-    unfolding numbers_at
-    second_bad e = rw (← s, good, ← f, e)
-
-    pub both_good : four_at_most bytes (space + 1) feed 10 ≡ true
-        → sized (value_at bytes from (space - from) 0) (value_at bytes (space + 1) (feed - (space + 1)) 0) (feed + 1) ≡ numbers_at bytes from
-    unfolding numbers_at
-    both_good e = rw (← s, good, ← f, e)
-
 -- a number, or none, and what is made of it
 made_of : (b : Bool) (n : Numeral) (x : Result Sides Refusal) (made : Numeral → Result Sides Refusal) → x ≡ made n
     → cond b x (Err BadNumber) ≡ after (cond b (Ok n) (Err BadNumber)) made
@@ -97,3 +81,15 @@ numbers_read bytes from =
     let space = digits_end bytes from in
     let feed = digits_end bytes (space + 1) in
     made_of (four_at_most bytes from space 32) _ _ _ (made_of (four_at_most bytes (space + 1) feed 10) _ _ _ refl)
+
+-- a number and its mark are at most five bytes
+pub number_near : (bytes : List ℕ) (from mark : ℕ) → IfOk (number_at bytes from mark) (λ n. n.next ≤ from + 5)
+unfolding number_at
+number_near bytes from mark =
+    let end = digits_end bytes from in
+    go (four_at_most bytes from end mark) (value_at bytes from (end - from) 0) end (λ e. (four_facts bytes from end mark e).1)
+  where
+    go : (b : Bool) (value end : ℕ) → (b ≡ true → end ≤ from + 4)
+        → IfOk (cond b (Ok (record { value = value; next = end + 1 })) (Err BadNumber)) (λ (n : Numeral). n.next ≤ from + 5)
+    go true value end near = let l = near refl in omega arith
+    go false value end near = tt

@@ -1,6 +1,6 @@
 -- Sides that the first two lines give are at most the largest of the program, and the pixels begin within the longest first two lines.
 -- Assumes nothing.
-use Prim.Native.Nat.{ℕ, ◌+◌, ◌-◌, ◌≤◌}
+use Prim.Native.Nat.{ℕ, ◌+◌, ◌≤◌}
 use mathlib.Core.Path.{◌≡◌, refl}
 use mathlib.Core.Bool.{Bool, true, false, cond, ◌&&◌}
 use mathlib.Core.List.{List}
@@ -9,12 +9,15 @@ use borrow.Author.Tests.{leb-true}
 use lib.Dec.{leb}
 use Rattle.board.specs.Board.{least_side}
 use Rattle.board.proofs.Sides.{both}
-use Rattle.std.specs.Prelude.{Result, Ok, Err}
+use Rattle.std.specs.Prelude.{Result, Ok, Err, IfOk}
 use Rattle.refusal.specs.declared.Refusal.{Refusal}
 use Rattle.refusal.specs.declared.Refusal.TheVariants.{BadSide, BadNumber}
 use Rattle.header.specs.declared.Sides.{Sides}
-use Rattle.header.proofs.Numbers.{four_facts}
-use Rattle.header.specs.Header.{sides_line, begins, digits_end, four_at_most, value_at, most_shown, shown_side, sized, numbers_at, header_of}
+use Rattle.header.specs.declared.Numeral.{Numeral}
+use Rattle.std.proofs.lemmas.Result.{IfOk-weaker}
+use Rattle.header.specs.Inner.{number_at, after}
+use Rattle.header.proofs.Numbers.{numbers_read, number_near}
+use Rattle.header.specs.Header.{sides_line, begins, most_shown, shown_side, sized, numbers_at, header_of}
 
 abbrev pub Shown : ℕ → Result Sides Refusal → Type 0
 Shown most (Ok s) = (s.height ≤ most_shown) × (s.width ≤ most_shown) × (s.at ≤ most)
@@ -35,19 +38,20 @@ sized_shown most h w at l =
     tt
 
 numbers_shown : (bytes : List ℕ) (from : ℕ) → Shown (from + 10) (numbers_at bytes from)
-unfolding numbers_at
 numbers_shown bytes from =
-    let space = digits_end bytes from in
-    let feed = digits_end bytes (space + 1) in
-    let h = value_at bytes from (space - from) 0 in
-    let w = value_at bytes (space + 1) (feed - (space + 1)) 0 in
-    let ends : four_at_most bytes from space 32 ≡ true → four_at_most bytes (space + 1) feed 10 ≡ true → feed + 1 ≤ from + 10 =
-    λ e g. omega (arith, (four_facts bytes from space 32 e).1, (four_facts bytes (space + 1) feed 10 g).1) in
-    either (from + 10) (four_at_most bytes from space 32) _ (Err BadNumber)
-    (λ e. either (from + 10) (four_at_most bytes (space + 1) feed 10) (sized h w (feed + 1)) (Err BadNumber)
-    (λ g. sized_shown (from + 10) h w (feed + 1) (ends e g))
-    tt)
-    tt
+    rw (numbers_read bytes from) (first (number_at bytes from 32) (number_near bytes from 32))
+  where
+    second : (h : Numeral) (n : Result Numeral Refusal) → IfOk n (λ w. w.next ≤ from + 10)
+        → Shown (from + 10) (after n (λ w. sized h.value w.value w.next))
+    second h (Ok w) l = sized_shown (from + 10) h.value w.value w.next l
+    second h (Err r) l = tt
+
+    first : (n : Result Numeral Refusal) → IfOk n (λ h. h.next ≤ from + 5)
+        → Shown (from + 10) (after n (λ h. after (number_at bytes h.next 10) (λ w. sized h.value w.value w.next)))
+    first (Ok h) l = second h (number_at bytes h.next 10)
+        (IfOk-weaker (number_at bytes h.next 10) (λ w. w.next ≤ h.next + 5) (λ w. w.next ≤ from + 10) (λ w s. omega arith)
+        (number_near bytes h.next 10))
+    first (Err r) l = tt
 
 pub header_shown : (bytes : List ℕ) → Shown 23 (header_of bytes)
 unfolding header_of

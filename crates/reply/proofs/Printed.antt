@@ -8,7 +8,7 @@ use native.Mathlib.Omega.{arith}
 use borrow.Author.Tests.{eq-eqb, ne_eqb}
 use lib.Dec.{eqb}
 use lib.Ieee.{Float, binary32, of_bits}
-use lib.ListN.{length, get_or, take, drop, replicate, length-append, length-replicate}
+use lib.ListN.{length, get_or, take, replicate, length-append, length-replicate}
 use lib.Seq.{length-take-le, take_at}
 use Rattle.board.specs.Board.{least_side, fresh}
 use Rattle.board.specs.Inner.{FitPlanes}
@@ -17,12 +17,8 @@ use Rattle.load.specs.Load.{most_byte, load_answer, LoadGives}
 use Rattle.locate.specs.declared.Located.{Located}
 use Rattle.locate.specs.Locate.{found_in}
 use Rattle.reply.specs.Values.{located, alone}
-use Rattle.std.specs.Prelude.{Ok, Err}
-use Rattle.refusal.specs.declared.Refusal.{Refusal}
-use Rattle.refusal.specs.Refusal.{number}
-use Rattle.header.specs.declared.Sides.{Sides}
-use Rattle.header.specs.Header.{most_shown, header_of}
-use Rattle.reply.specs.Answer.{factor, values_of, values_for, answer_to}
+use Rattle.header.specs.Header.{most_shown}
+use Rattle.reply.specs.Answer.{factor, values_of}
 use Rattle.reply.proofs.Loading.{planes_of, planes_length, answer_is, planes_are, board_is, planes_fit}
 use Rattle.reply.proofs.Locating.{most_area, area}
 
@@ -73,14 +69,3 @@ module _ {h w : ℕ} {pixels : List ℕ} {r : Loaded} {before after : List Float
         let is : found_in r.board factor (take (3 * (h * w)) (after ++ rest)) ≡ found_in (fresh h w) factor (planes_of h w pixels) =
         rw (board_is loads sized accepted, lent_is) in
         ap located (e ∙ is) ∙ sym values_are
-
--- ---- what is printed as the first two lines are read
-
-pub for_sides : (bytes : List ℕ) {pixels : List ℕ} {s : Sides} → header_of bytes ≡ Ok s → pixels ≡ drop s.at bytes
-    → values_of s.height s.width pixels ≡ answer_to bytes
-unfolding answer_to values_for
-for_sides bytes {s = s} e p = ap (values_of s.height s.width) p ∙ sym (ap (values_for bytes) e)
-
-pub for_refusal : (bytes : List ℕ) {r : Refusal} → header_of bytes ≡ Err r → alone (number r) ≡ answer_to bytes
-unfolding answer_to values_for
-for_refusal bytes e = sym (ap (values_for bytes) e)

@@ -104,6 +104,7 @@ fn values_of(height: usize, width: usize, pixels: &[u8]) -> [u64; VALUES]
 }
 
 // What is printed for the bytes of the input.
+#[tactic(auto, unfolding(crate::specs::Answer::answer_to, crate::specs::Answer::values_for), using(header::proofs::Shown::header_shown))]
 fn answer_to(bytes: &[u8]) -> [u64; VALUES]
     ensures { result ≡ answer_to bytes.now }
 {
