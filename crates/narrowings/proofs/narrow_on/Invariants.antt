@@ -2,8 +2,8 @@
 use Rattle.narrowings.proofs.Turns.{Here}
 use Rattle.narrowings.proofs.narrow_on.Given as goal
 
-abbrev pub invariant-loop-planes : goal.invariant-loop-planes
-invariant-loop-planes l = Here l.factor l.fn.start.height l.fn.start.width l.fn.planes l.last l.planes l.scratch
+abbrev pub invariant-loop-factor : goal.invariant-loop-factor
+invariant-loop-factor l = Here l.factor.value l.fn.start.height l.fn.start.width l.fn.planes l.last l.planes l.scratch
 
-abbrev pub decreases-loop-planes : goal.decreases-loop-planes
-decreases-loop-planes l = l.last.height
+abbrev pub decreases-loop-factor : goal.decreases-loop-factor
+decreases-loop-factor l = l.last.height
