@@ -1,16 +1,17 @@
 -- What the checks of locating tell. Assumes nothing.
 use Prim.Native.Nat.{ℕ, ◌+◌, ◌*◌}
-use mathlib.Core.Path.{◌≡◌, refl}
-use mathlib.Core.Bool.{false}
+use mathlib.Core.Path.{◌≡◌, refl, ◌∙◌}
+use mathlib.Core.Bool.{Bool, false}
 use mathlib.Core.List.{[]}
-use borrow.Author.Tests.{ltb-false}
+use borrow.Author.Tests.{ltb-false, le-ltb}
 use lib.Dec.{ltb}
 use lib.ListN.{length}
 use Rattle.board.specs.declared.Board.{Board}
-use Rattle.board.specs.Board.{least_located, factor_outside}
+use Rattle.board.specs.Board.{least_located, least_factor, most_factor, outside, sides_outside, factor_outside}
+use Rattle.board.specs.Planes.{planes_answer}
 use Rattle.board.specs.Inner.{FactorIn, FitPlanes}
 use Rattle.board.proofs.Sides.{neither, passed, factor_in}
-use Rattle.board.proofs.Planes.{planes_fit}
+use Rattle.board.proofs.Planes.{planes_fit, answer_same}
 use Rattle.locate.specs.Locate.{Lent, lent, slices_short, checked}
 use Rattle.locate.specs.Inner.{NoneShort}
 
@@ -42,3 +43,19 @@ fit b f s e =
     let a = passed (factor_outside f) 12 _ e in
     let p = planes_fit (least_located f) b.height b.width s.planes (slices_short b.height b.width s) a.1 in
     (factor_in f a.0, p.0, none_short b.height b.width s p.1)
+
+-- a factor of a narrowing passes its test
+factor_pass : (f : ℕ) → FactorIn f → factor_outside f ≡ false
+unfolding outside
+factor_pass f i = rw (le-ltb f least_factor i.low, le-ltb most_factor f i.high)
+
+-- what the checks find of the planes, with a factor of a narrowing
+pub checked_planes : (b : Board) (f : ℕ) (s : Lent) {least n : ℕ} {short : Bool} → FactorIn f → least ≡ least_located f
+    → n ≡ planes_answer least b.height b.width s.planes short
+    → (sides_outside least b.height b.width ≡ false
+        → short ≡ slices_short b.height b.width (lent [] s.edges s.scores s.scratch_f32 s.scratch_u8 s.scratch_u32))
+    → n ≡ checked b f s
+checked_planes b f s {least} {n} {short} i l e same =
+    let is = e ∙ answer_same least b.height b.width s.planes short (slices_short b.height b.width s)
+        (λ o. same o ∙ short_same b.height b.width s) in
+    rw (factor_pass f i) (rw l at is)

@@ -36,6 +36,7 @@ pub struct Located {
 }
 
 // Whether a slice other than the planes is short. With sides outside the limits any answer will do: it is not looked at.
+#[tactic(auto, unfolding(crate::specs::Locate::slices_short), using(board::proofs::Sides::sides_in))]
 fn slices_short(
     least: usize,
     height: usize,
