@@ -3,3 +3,4 @@ pub mod Loading
 pub mod Locating
 pub mod Printed
 pub mod Room
+pub mod Writing
