@@ -1,6 +1,6 @@
 -- The fourteen worked cases of 01, and those of requests of 02, by the definitions that the contracts cite. They hold together:
 -- proofs/Worked.
-use Rattle.std.specs.Prelude.{ℕ, ◌*◌, ◌≡◌, Bool, true, false, cond, ◌||◌, List, [], ◌∷◌, eqb, Float, length, replicate}
+use Rattle.std.specs.Prelude.{ℕ, ◌*◌, ◌≡◌, Bool, true, false, cond, ◌||◌, List, [], ◌∷◌, eqb, Float, length, replicate, Result, Ok, Err}
 use Rattle.std.specs.Float.{binary32}
 use Rattle.std.specs.Float.Ieee.{of_bits}
 use Rattle.lists.specs.Tab.{tab_from, tab}
@@ -14,7 +14,6 @@ use Rattle.lanes.specs.Score.{Place, at, score}
 use Rattle.strips.specs.Strip.{places, column_scores, row_scores}
 use Rattle.lines.specs.Lines.{lines_of}
 use Rattle.reading.specs.declared.Reading.{Reading}
-use Rattle.reading.specs.declared.Reading.TheVariants.{Read, Refused}
 use Rattle.reading.specs.Reading.{reading_of}
 use Rattle.sample.specs.Sample.{row_at, on_board, cell_answer}
 
@@ -36,9 +35,9 @@ pub data Case : Type 0 where
   -- the column scores over some bounds, which are the row scores of the flipped picture too
   listed : Picture → Bounds → List ℕ → Case
   -- what a list reads as
-  read : List ℕ → Reading → Case
+  read : List ℕ → Result (Reading Float) ℕ → Case
   -- the lines of a list, and what it reads as
-  lined : List ℕ → List ℕ → Reading → Case
+  lined : List ℕ → List ℕ → Result (Reading Float) ℕ → Case
   -- the sampled rows of a record, a cell on its board and a size
   sampled : Board → ℕ → ℕ → ℕ → List ℕ → Case
   -- the answer to a record, a cell, a size and so many entries of output, where the planes are fit
@@ -100,6 +99,10 @@ one_cell side offset pitch =
 abbrev pub eight : Float
 eight = of_bits binary32 0x41000000
 
+-- a reading with this pitch, offset, count and votes
+abbrev pub read_as : Float → ℕ → ℕ → ℕ → Result (Reading Float) ℕ
+read_as pitch offset count votes = Ok (record { pitch = pitch; offset = offset; count = count; votes = votes })
+
 abbrev pub ten : Float
 ten = of_bits binary32 0x41200000
 
@@ -121,14 +124,14 @@ cases =
     ∷ scored (only 3) 3 2 1
     ∷ scored (only 3) 2 2 0
     -- lists of 30, zero but for tens at: 3, 13, 23: pitch 10.0, offset 3, count 2, votes 3; 3, 12: 9.0, 3, 1, 2
-    ∷ read (tens 30 (3 ∷ 13 ∷ 23 ∷ [])) (Read ten 3 2 3)
-    ∷ read (tens 30 (3 ∷ 12 ∷ [])) (Read nine 3 1 2)
+    ∷ read (tens 30 (3 ∷ 13 ∷ 23 ∷ [])) (read_as ten 3 2 3)
+    ∷ read (tens 30 (3 ∷ 12 ∷ [])) (read_as nine 3 1 2)
     -- 3, 11: lines 3 and 7, refusal 6; none: lines 6 to 22, refusal 6
-    ∷ lined (tens 30 (3 ∷ 11 ∷ [])) (3 ∷ 7 ∷ []) (Refused 6)
-    ∷ lined (tens 30 []) (tab_from 6 17 (λ i. i)) (Refused 6)
+    ∷ lined (tens 30 (3 ∷ 11 ∷ [])) (3 ∷ 7 ∷ []) (Err 6)
+    ∷ lined (tens 30 []) (tab_from 6 17 (λ i. i)) (Err 6)
     -- lists of 300, tens at 3, 208: 200.0, 3, 1, 1; 3, 209: refusal 7
-    ∷ read (tens 300 (3 ∷ 208 ∷ [])) (Read two_hundred 3 1 1)
-    ∷ read (tens 300 (3 ∷ 209 ∷ [])) (Refused 7)
+    ∷ read (tens 300 (3 ∷ 208 ∷ [])) (read_as two_hundred 3 1 1)
+    ∷ read (tens 300 (3 ∷ 209 ∷ [])) (Err 7)
     -- sampling with corner 0, offset 3, pitch 10.0, x = 0, size 2: rows 5 and 10; r and c are 1 (02, R-5)
     ∷ sampled (one_cell 12 3 ten) 0 0 2 (5 ∷ 10 ∷ [])
     ∷ []
