@@ -163,7 +163,7 @@ impl Strips {
         self.e[i] = v.e;
     }
 
-    // Strips 0 to m before the first step.
+    // The first m strips before the first step.
     fn starts(&mut self, m: usize)
         requires { m ≤ 4096 }
         ensures { (i : ℕ) → i < m → LanesHold 5 (λ j. apart j 2) (lanes_of self.new i) }
