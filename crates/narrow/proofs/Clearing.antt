@@ -9,8 +9,7 @@ use native.Mathlib.Omega.{arith}
 use borrow.Author.Tests.{ltb-true, ltb-false}
 use lib.Dec.{T, ltb}
 use lib.Ieee.{Float, nan, binary32, fits, of_bits, to_bits}
-use lib.ListN.{length, take, get_or, replicate}
-use lib.Seq.{length-take-le, get_or-take}
+use lib.ListN.{get_or, replicate}
 use Rattle.lists.specs.Front.{AtFront}
 use Rattle.lists.proofs.Front.{same_at, same_beyond}
 use Rattle.lists.proofs.Grid.{row_fits}
@@ -20,7 +19,6 @@ use Rattle.binary32.specs.Inner.{IsUnit}
 use Rattle.rank.specs.Rank.{ranked}
 use Rattle.board.specs.Screen.{view}
 use Rattle.board.specs.Inner.{FitPlanes}
-use Rattle.board.proofs.Units.{units_all}
 use Rattle.narrow.specs.Narrow.{median, narrowed}
 use Rattle.narrow.specs.Inner.{row_of, UnitPlanes}
 use Rattle.narrow.proofs.Block.{unit_at}

@@ -22,34 +22,36 @@ pub record Gathering (t f m width at : ℕ) (planes x : List Float) : Type 0 whe
 
 -- two digits tell the number
 digits_same : {n a b c d : ℕ} → b < n → d < n → a * n + b ≡ c * n + d → (a ≡ c) × (b ≡ d)
-digits_same {n} {a} {b} {c} {d} p q e =
-    (
-      sym (digits_div a p) ∙ ap (λ (k : ℕ). k / n) e ∙ digits_div c q,
-      sym (digits_mod a p) ∙ ap (λ (k : ℕ). k % n) e ∙ digits_mod c q,
-    )
+digits_same {n} {a} {b} {c} {d} p q e = (
+  sym (digits_div a p) ∙ ap (λ (k : ℕ). k / n) e ∙ digits_div c q,
+  sym (digits_mod a p) ∙ ap (λ (k : ℕ). k % n) e ∙ digits_mod c q,
+)
 
 pub gathered_more : {f m width at : ℕ} (u v l : ℕ) {planes x : List Float} → Gathering ((u * m + l) * f + v) f m width at planes x →
     FactorIn f → m ≤ list_count → u < f → v < f → l < m
     → Gathering ((u * m + l) * f + (v + 1)) f m width at planes
     (set x ((u * f + v) * list_count + l) (get_or planes (at + u * width + l * f + v) nan))
 gathered_more {f} {m} {width} {at} u v l {planes} {x} G F M U V L =
-    record { long = length-set x _ _ ∙ G.long; here = λ u' v' l' a b c d.
-        let y = get_or planes (at + u * width + l * f + v) nan in
-        ⊎_elim (λ (e : (u' * m + l') * f + v' ≡ (u * m + l) * f + v).
-            let p = digits_same b V e in
-            let q = digits_same c L p.0 in
-            rw (q.0, q.1, p.1) (get_or-set_same x ((u * f + v) * list_count + l) y nan (omega (arith, digits_lt U V, mul-le-mul F.high F.high, G.long))))
-        (λ (e : (u' * m + l') * f + v' < (u * m + l) * f + v).
-            get_or-set_other x ((u * f + v) * list_count + l) ((u' * f + v') * list_count + l') y nan
-            (λ z.
-                let k : u' * f + v' ≡ u * f + v = omega (arith, z) in
-                let q = digits_same b V k in
-                let s : l' ≡ l = omega (arith, z) in
-                let r : (u' * m + l') * f + v' ≡ (u * m + l) * f + v = rw (q.0, q.1, s) in
-                let bad : ⊥ = omega arith in
-                bad)
-            ∙ G.here u' v' l' a b c e)
-        (eq-or-lt_of_le {n = (u' * m + l') * f + v'} {m = (u * m + l) * f + v} (omega arith)) }
+    record {
+      long = length-set x _ _ ∙ G.long;
+      here = λ u' v' l' a b c d.
+          let y = get_or planes (at + u * width + l * f + v) nan in
+          ⊎_elim (λ (e : (u' * m + l') * f + v' ≡ (u * m + l) * f + v).
+          let p = digits_same b V e in
+          let q = digits_same c L p.0 in
+          rw (q.0, q.1, p.1) (get_or-set_same x ((u * f + v) * list_count + l) y nan (omega (arith, digits_lt U V, mul-le-mul F.high F.high, G.long))))
+          (λ (e : (u' * m + l') * f + v' < (u * m + l) * f + v).
+          get_or-set_other x ((u * f + v) * list_count + l) ((u' * f + v') * list_count + l') y nan
+          (λ z.
+          let k : u' * f + v' ≡ u * f + v = omega (arith, z) in
+          let q = digits_same b V k in
+          let s : l' ≡ l = omega (arith, z) in
+          let r : (u' * m + l') * f + v' ≡ (u * m + l) * f + v = rw (q.0, q.1, s) in
+          let bad : ⊥ = omega arith in
+          bad)
+          ∙ G.here u' v' l' a b c e)
+          (eq-or-lt_of_le {n = (u' * m + l') * f + v'} {m = (u * m + l) * f + v} (omega arith));
+    }
 
 pub gathered_all : {f m width at u : ℕ} {planes x : List Float} → Gathering (u * m * f) f m width at planes x → f ≤ u
     → Gathered f m width at planes x

@@ -19,7 +19,7 @@ use Rattle.board.specs.Inner.{FactorIn, FitPlanes}
 use Rattle.board.proofs.Packed.{length_packed, plane_rows, packed_rows}
 use Rattle.narrow.specs.Narrow.{narrowed, narrow}
 use Rattle.narrow.specs.Inner.{row_of, UnitPlanes}
-use Rattle.narrow.proofs.Clearing.{zero32, Cleared, units_of, cleared_units, row_same, bands_in}
+use Rattle.narrow.proofs.Clearing.{zero32, Cleared, units_of, cleared_units, row_same, bands_in, band_in}
 
 -- the narrowed planes need no more room than one old plane
 pub shrinks : (f h w : ℕ) → 2 ≤ f → 3 * (h / f * (w / f)) ≤ h * w
@@ -88,3 +88,5 @@ module _ {f h w : ℕ} {planes lent out : List Float} (factor : FactorIn f) (fit
   kept_behind =
       let long = length_packed (narrowed f (view h w planes)) in
       front_kept (h * w) (omega (arith, long, shrinks f h w factor.low)) front
+
+pub ruleset row_laws = (row_in, bands_in, band_in, still_units, narrowing_more)

@@ -1,6 +1,6 @@
 -- For the code alone, which lays the blocks of m neighbouring points of a row side by side, a list each (crate select): all of their
 -- values are among the planes, and each stands in its list. No contract of an entry point reaches these.
-use Rattle.std.specs.Prelude.{ℕ, ◌+◌, ◌*◌, ◌≤◌, ◌<◌, ◌≢◌, ◌≡◌, List, Float, length, get_or}
+use Rattle.std.specs.Prelude.{ℕ, ◌+◌, ◌*◌, ◌≤◌, ◌<◌, ◌≡◌, List, Float, length, get_or}
 use Rattle.std.specs.Float.{nan}
 use Rattle.lists.specs.Tab.{tab}
 use Rattle.binary32.specs.Inner.{IsUnit}
@@ -23,12 +23,12 @@ abbrev pub run : Screen → ℕ → ℕ → ℕ → ℕ → List Float
 run s k i j m = tab m (λ l. s.px k i (j + l))
 
 -- those points are there, and there is a list for each
-pub record PointsIn (height width k i j m : ℕ) : Type 0 where
+pub record PointsIn (s : Screen) (k i j m : ℕ) : Type 0 where
   pub plane : k < 3
-  pub row : i < height
+  pub row : i < s.height
   pub some : 0 < m
   pub few : m ≤ list_count
-  pub columns : j + m ≤ width
+  pub columns : j + m ≤ s.width
 
 -- all rows of the blocks are there, the first value at `at`
 abbrev pub Reached : ℕ → ℕ → ℕ → ℕ → List Float → Type 0

@@ -24,13 +24,7 @@ const ROOM: usize = Board::MOST_FACTOR * Board::MOST_FACTOR * LIST_COUNT;
 
 // The blocks of m neighbouring points, the first value at `at`: a list each, and nothing is said of the lists beyond. The factor is a
 // constant, so that the compiler takes the values of neighbouring points apart several at a time.
-fn gather_by<const F: usize>(
-    planes: &[f32],
-    at: usize,
-    width: usize,
-    m: usize,
-    x: &mut [f32; ROOM],
-)
+fn gather_by<const F: usize>(planes: &[f32], at: usize, width: usize, m: usize, x: &mut [f32; ROOM])
     requires { FactorIn F × Reached F m width at planes.now × (m ≤ list_count) }
     ensures { Gathered F m width at planes.now x.new }
 {
@@ -54,6 +48,9 @@ struct Blocks<'a> {
 }
 
 impl Blocks<'_> {
+    ghost use Rattle.narrow.specs.Blocks.{points};
+
+    // The same by the factor at hand, 2 to 5.
     fn gather(&self, at: usize, m: usize, x: &mut [f32; ROOM])
         requires { Reached self.now.factor.value m self.now.width at self.now.planes.now × (m ≤ list_count) }
         ensures { Gathered self.now.factor.value m self.now.width at self.now.planes.now x.new }
@@ -68,19 +65,10 @@ impl Blocks<'_> {
 
     // The m points from j on of row i of narrowed plane k.
     #[tactic(auto, using(crate::proofs::Block::reached, crate::proofs::Block::medians_are))]
-    fn group(
-        &self,
-        k: usize,
-        i: usize,
-        j: usize,
-        m: usize,
-        x: &mut [f32; ROOM],
-        out: &mut [f32],
-    )
-        requires points_in { let f = self.now.factor.value in PointsIn (self.now.height / f) (self.now.width / f) k i j m }
-        requires room { self.now.width / self.now.factor.value ≤ length out.old }
-        ensures { let s = view self.now.height self.now.width self.now.planes.now in
-            Placed (run (narrowed self.now.factor.value s) k i j m) j out.old out.new }
+    fn group(&self, k: usize, i: usize, j: usize, m: usize, x: &mut [f32; ROOM], out: &mut [f32])
+        requires points_in { PointsIn (points self.now) k i j m }
+        requires room { (points self.now).width ≤ length out.old }
+        ensures { Placed (run (points self.now) k i j m) j out.old out.new }
     {
         let f = self.factor.value;
         let at = k * (self.height * self.width) + (i * f * self.width + j * f);
@@ -90,10 +78,9 @@ impl Blocks<'_> {
 
     // Row i of narrowed plane k, so many points at once as there are lists.
     fn row(&self, k: usize, i: usize, x: &mut [f32; ROOM], out: &mut [f32])
-        requires row_in { (k < 3) × (i < self.now.height / self.now.factor.value) }
-        requires room { self.now.width / self.now.factor.value ≤ length out.old }
-        ensures { let s = view self.now.height self.now.width self.now.planes.now in
-            AtFront (row_of (narrowed self.now.factor.value s) k i) out.old out.new }
+        requires row_in { (k < 3) × (i < (points self.now).height) }
+        requires room { (points self.now).width ≤ length out.old }
+        ensures { AtFront (row_of (points self.now) k i) out.old out.new }
     {
         let columns = self.width / self.factor.value;
         for j in (0..columns).step_by(LIST_COUNT) {
@@ -105,14 +92,8 @@ impl Blocks<'_> {
 
 // The narrowed planes, one after another, row by row. Rows of the planes are cleared once they were read, while the processor has them
 // at hand: clearing in a pass of its own would fetch them again. Where rows are left over, what is cleared lags behind what was read.
-#[tactic(auto, using(crate::proofs::Rows::row_in, crate::proofs::Clearing::bands_in, crate::proofs::Clearing::band_in))]
-fn narrow_planes(
-    factor: Factor,
-    height: usize,
-    width: usize,
-    planes: &mut [f32],
-    out: &mut [f32],
-)
+#[tactic(auto, using(crate::proofs::Rows::row_laws))]
+fn narrow_planes(factor: Factor, height: usize, width: usize, planes: &mut [f32], out: &mut [f32])
     requires { FitPlanes 0 height width planes.old × (height * width ≤ length out.old) }
     ensures front { AtFront (packed (narrowed factor.value (view height width planes.old))) out.old out.new }
     ensures cleared { AtFront (replicate (3 * (height * width)) (of_bits binary32 0)) planes.old planes.new }
@@ -129,25 +110,16 @@ fn narrow_planes(
             width,
             planes: &planes[..],
         };
-        let from = r * columns;
-        blocks.row(r / rows, r % rows, &mut x, &mut out[from..]);
-        let at = r * band;
-        lists::clear_front(&mut planes[at..], band);
+        blocks.row(r / rows, r % rows, &mut x, &mut out[r * columns..]);
+        lists::clear_front(&mut planes[r * band..], band);
     }
     let cleared = 3 * rows * band;
-    let rest = 3 * (height * width) - cleared;
-    lists::clear_front(&mut planes[cleared..], rest);
+    lists::clear_front(&mut planes[cleared..], 3 * (height * width) - cleared);
 }
 
 // Narrows the planes by the factor. The first height · width entries of `scratch` are free afterwards.
 #[tactic(auto, using(crate::proofs::Rows::shrinks))]
-pub fn narrow(
-    factor: Factor,
-    height: usize,
-    width: usize,
-    planes: &mut [f32],
-    scratch: &mut [f32],
-)
+pub fn narrow(factor: Factor, height: usize, width: usize, planes: &mut [f32], scratch: &mut [f32])
     requires { FitPlanes 0 height width planes.old × (height * width ≤ length scratch.old) }
     ensures planes_after { planes.new ≡ Spec.narrow factor.value height width planes.old }
     ensures scratch_unchanged { drop (height * width) scratch.new ≡ drop (height * width) scratch.old }

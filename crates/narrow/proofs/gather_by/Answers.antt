@@ -1,4 +1,4 @@
-use Rattle.std.proofs.Common.{◌≡◌, arith, rules}
+use Rattle.std.proofs.Common.{arith, rules}
 use Rattle.narrow.proofs.Gathering.{gathered_more, gathered_all}
 use Rattle.narrow.proofs.gather_by.Goals as goal
 

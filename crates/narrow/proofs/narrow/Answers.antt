@@ -1,4 +1,3 @@
-use Rattle.std.proofs.Common.{rules, arith}
 use Rattle.narrow.proofs.Rows.{copied, kept_behind}
 use Rattle.narrow.proofs.narrow.Goals as goal
 

@@ -1,4 +1,4 @@
-use Rattle.std.proofs.Common.{rules, arith, ◌≡◌, ◌+◌, min}
+use Rattle.std.proofs.Common.{rules, arith}
 use Rattle.narrow.proofs.Block.{run_more}
 use Rattle.narrow.proofs.Blocks.row.Goals as goal
 
