@@ -90,8 +90,8 @@ impl Buffers {
         if stream::read_full(from, &mut sides) != Ok(4) {
             return Ok(false);
         }
-        let height = usize::from(sides[0]) + 256 * usize::from(sides[1]);
-        let width = usize::from(sides[2]) + 256 * usize::from(sides[3]);
+        let height = usize::from(u16::from_le_bytes([sides[0], sides[1]]));
+        let width = usize::from(u16::from_le_bytes([sides[2], sides[3]]));
         if MOST < height || MOST < width {
             return Ok(false);
         }
