@@ -1,19 +1,18 @@
 -- Lists of units, told of each value; lists whose first n values are units, and how a count of the others tells it. Assumes nothing.
 use Prim.Native.Nat.{ℕ, zero, suc, ◌+◌, ◌≤◌, ◌<◌}
-use mathlib.Core.Path.{◌≡◌, refl, sym, ◌∙◌}
+use mathlib.Core.Path.{◌≡◌, refl}
 use mathlib.Core.Bool.{Bool, true, false, not, cond, ◌&&◌}
-use mathlib.Core.List.{List, [], ◌∷◌, ◌++◌}
+use mathlib.Core.List.{List, [], ◌∷◌}
 use native.Mathlib.Nat.{zero-add}
-use native.Mathlib.Numerals.{add-one}
 use native.Mathlib.Omega.{arith}
 use borrow.Author.Tests.{ne_eqb}
 use lib.Dec.{eqb}
 use lib.Ieee.{Float, nan}
 use lib.ListN.{length, get_or, take}
-use lib.Seq.{get_or-take, length-take-le, take-suc}
+use lib.Seq.{get_or-take, length-take-le}
 use Rattle.lists.specs.Count.{count}
 use Rattle.binary32.specs.Binary32.{unit}
-use Rattle.board.proofs.Sides.{and_true, and_false, both}
+use Rattle.board.proofs.Sides.{both}
 use Rattle.board.specs.Planes.{all_units}
 
 units_at : (l : List Float) (k : ℕ) → all_units l ≡ true → k < length l → unit (get_or l k nan) ≡ true

@@ -84,7 +84,10 @@ fn stands_out(v: u32, a: &[u32], b: &[u32]) -> bool
 {
     largest_of(a) <= v
         && largest_of(b) <= v
-        && balanced(lists::count_passing(a, &EqualTo(v)), lists::count_passing(b, &EqualTo(v)))
+        && balanced(
+            lists::count_passing(a, &EqualTo(v)),
+            lists::count_passing(b, &EqualTo(v)),
+        )
 }
 
 // ---- scores

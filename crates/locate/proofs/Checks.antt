@@ -53,9 +53,9 @@ factor_pass f i = rw (le-ltb f least_factor i.low, le-ltb most_factor f i.high)
 pub checked_planes : (b : Board) (f : ℕ) (s : Lent) {least n : ℕ} {short : Bool} → FactorIn f → least ≡ least_located f
     → n ≡ planes_answer least b.height b.width s.planes short
     → (sides_outside least b.height b.width ≡ false
-        → short ≡ slices_short b.height b.width (lent [] s.edges s.scores s.scratch_f32 s.scratch_u8 s.scratch_u32))
+    → short ≡ slices_short b.height b.width (lent [] s.edges s.scores s.scratch_f32 s.scratch_u8 s.scratch_u32))
     → n ≡ checked b f s
 checked_planes b f s {least} {n} {short} i l e same =
     let is = e ∙ answer_same least b.height b.width s.planes short (slices_short b.height b.width s)
-        (λ o. same o ∙ short_same b.height b.width s) in
+    (λ o. same o ∙ short_same b.height b.width s) in
     rw (factor_pass f i) (rw l at is)

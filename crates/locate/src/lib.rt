@@ -224,11 +224,7 @@ fn work(
 {
     let l = narrowings::last_picture(factor, b.height, b.width, planes, edges, scratch_f32);
     if l.small {
-        return declined(
-            b.resized(l.height, l.width),
-            Refusal::TooSmall,
-            l.narrowed,
-        );
+        return declined(b.resized(l.height, l.width), Refusal::TooSmall, l.narrowed);
     }
     read_from(b, l, edges, scores, scratch_u8, scratch_u32)
 }

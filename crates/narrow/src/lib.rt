@@ -50,7 +50,7 @@ struct Blocks<'a> {
 impl Blocks<'_> {
     ghost use Rattle.narrow.specs.Blocks.{points};
 
-    // The same by the factor at hand, 2 to 5.
+    // The blocks of m neighbouring points, the first value at `at`, by the factor at hand.
     fn gather(&self, at: usize, m: usize, x: &mut [f32; ROOM])
         requires { Reached self.now.factor.value m self.now.width at self.now.planes.now × (m ≤ list_count) }
         ensures { Gathered self.now.factor.value m self.now.width at self.now.planes.now x.new }
@@ -118,7 +118,7 @@ fn narrow_planes(factor: Factor, height: usize, width: usize, planes: &mut [f32]
 }
 
 // Narrows the planes by the factor. The first height · width entries of `scratch` are free afterwards.
-#[tactic(auto, using(crate::proofs::Rows::shrinks))]
+#[tactic(auto, using(crate::proofs::Rows::shrinks, crate::proofs::Rows::kept_behind))]
 pub fn narrow(factor: Factor, height: usize, width: usize, planes: &mut [f32], scratch: &mut [f32])
     requires { FitPlanes 0 height width planes.old × (height * width ≤ length scratch.old) }
     ensures planes_after { planes.new ≡ Spec.narrow factor.value height width planes.old }

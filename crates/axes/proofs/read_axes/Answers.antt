@@ -1,5 +1,5 @@
 -- The two parts of the score slice are the score lists, which can be read.
-use Rattle.std.proofs.Common.{sym, ap, ◌∙◌, arith, rules}
+use Rattle.std.proofs.Common.{sym, ap, ◌∙◌, arith}
 use Rattle.lists.specs.Picture.{points}
 use Rattle.reading.specs.Reading.{quarters_of}
 use Rattle.axes.proofs.Scoring.{across_part, down_part, across_in, down_in, across_fit, down_fit}

@@ -2,7 +2,6 @@
 use mathlib.Core.Path.{◌∙◌, sym}
 use Rattle.lists.proofs.Front.{front_behind}
 use Rattle.strips.proofs.Scores.{length_scores}
-use borrow.Author.Rules.{rules}
 use Rattle.axes.proofs.score_all.Goals as goal
 
 pub returns : goal.returns

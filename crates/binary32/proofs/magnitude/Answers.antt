@@ -1,5 +1,4 @@
 use Rattle.binary32.proofs.Values.{T_of, magnitude_is, magnitude_no_nan}
-use Rattle.std.proofs.Common.{rules}
 use Rattle.binary32.proofs.magnitude.Goals as goal
 
 pub float_from_bits-result : goal.float_from_bits-result

@@ -1,6 +1,5 @@
 use lib.Ieee.{neg, of_bits}
 use Rattle.binary32.proofs.Values.{T_of, trunc_high, trunc_low}
-use Rattle.std.proofs.Common.{rules}
 use Rattle.binary32.proofs.trunc.Goals as goal
 
 pub truncating_f32_to_u64-requires : goal.truncating_f32_to_u64-requires

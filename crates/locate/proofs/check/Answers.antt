@@ -1,7 +1,5 @@
 -- Whether a slice is short matters only where the sides are within their limits.
 use Rattle.std.proofs.Common.{◌≡◌, Err, rules}
-use Rattle.board.specs.Inner.{FactorIn}
-use Rattle.board.specs.Board.{least_located}
 use Rattle.locate.specs.Locate.{lent}
 use Rattle.locate.proofs.Checks.{checked_planes}
 use Rattle.locate.proofs.check.Goals as goal

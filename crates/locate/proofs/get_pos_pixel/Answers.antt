@@ -1,10 +1,10 @@
 -- The promise with the contract: a refusal by the checks, or the work on scratch of 01's lengths.
-use Rattle.std.proofs.Common.{◌∙◌, refl, sym, arith, rules}
+use Rattle.std.proofs.Common.{◌∙◌, refl, sym, arith}
 use lib.ListN.{length-take}
 use lib.Seq.{drop_at, length-take-le}
 use Rattle.locate.specs.Locate.{lent}
 use Rattle.locate.proofs.Checks.{fit}
-use Rattle.locate.proofs.Working.{refuses, accepts}
+use Rattle.locate.proofs.Working.{accepts}
 use Rattle.locate.proofs.get_pos_pixel.Goals as goal
 
 pub overflow_mul-n : goal.overflow_mul-n

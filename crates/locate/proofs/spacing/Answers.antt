@@ -1,5 +1,4 @@
 -- `locate::spacing` meets its contract: the pitch is the quarters' one.
-use borrow.Author.Rules.{rules}
 use Rattle.locate.proofs.spacing.Goals as goal
 
 pub returns : goal.returns

@@ -1,5 +1,4 @@
 -- The last picture, and the two ways on from it.
-use Rattle.std.proofs.Common.{rules}
 use Rattle.locate.specs.Locate.{lent}
 use Rattle.locate.proofs.Working.{leads, works_small, works_read}
 use Rattle.locate.proofs.work.Goals as goal

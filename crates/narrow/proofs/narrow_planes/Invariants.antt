@@ -1,3 +1,4 @@
+-- What the first r rows leave.
 use Rattle.narrow.proofs.Rows.{Narrowing}
 use Rattle.narrow.proofs.narrow_planes.Given as goal
 

@@ -1,4 +1,4 @@
-use Rattle.std.proofs.Common.{sym, arith, rules}
+use Rattle.std.proofs.Common.{sym, arith}
 use Rattle.rank.specs.Rank.{self}
 use Rattle.rank.proofs.Entry.{between_all, between_left, between_right, entry_none}
 use Rattle.rank.proofs.entry_of.Goals as goal
