@@ -49,6 +49,43 @@ fn largest_of_four(s: &[u32]) -> u32
     larger_score(s[0], larger_score(s[1], larger_score(s[2], s[3])))
 }
 
+// A place with four neighbours on each side.
+#[tactic(auto, using(crate::proofs::Windows::largest_part, crate::proofs::Windows::largest_at))]
+fn smooth_at(s: &[u32], i: usize) -> u32
+    requires { (4 ≤ i) × (i + 4 < length s.now) × (largest s.now ≤ 4096) }
+    ensures { result ≡ smoothed s.now i }
+{
+    let before = largest_of_four(&s[i - 4..i]);
+    let behind = largest_of_four(&s[i + 1..i + 5]);
+    larger_score(s[i], smaller_score(before, behind))
+}
+
+// The first and last four are as in s; those between have four neighbours on each side.
+#[tactic(auto, using(crate::proofs::Smoothing::smooth_begun))]
+pub fn smooth_into(s: &[u32], t: &mut [u32])
+    requires { (4 ≤ length s.now) × (largest s.now ≤ 4096) × (length s.now ≤ length t.old) }
+    ensures { AtFront (smooth s.now) t.old t.new }
+{
+    let n = s.len();
+    lists::copy_front(s, n, t);
+    for i in 4..n - 4 {
+        t[i] = smooth_at(s, i);
+    }
+}
+
+// ---- the threshold
+
+#[tactic(auto, using(crate::proofs::Entries::exact), unfolding(crate::specs::Lines::line_threshold))]
+pub fn line_threshold(s: &[u32]) -> f32
+    requires { InLimits s.now }
+    ensures { result ≡ line_threshold s.now }
+{
+    let j = binary32::trunc(0.85 * s.len() as f32) as usize;
+    let high = rank::entry_of(s, j, MOST);
+    let last = rank::entry_of(s, s.len() - 1, MOST);
+    (high as f32 + last as f32 * 0.75) / 2.0
+}
+
 // ---- the line test
 
 // The seven entries before place i, as far as there are so many.
@@ -90,8 +127,6 @@ fn stands_out(v: u32, a: &[u32], b: &[u32]) -> bool
         )
 }
 
-// ---- scores
-
 // A list of scores within the limits.
 #[derive(Clone, Copy)]
 struct Scores<'a> {
@@ -100,42 +135,6 @@ struct Scores<'a> {
 }
 
 impl Scores<'_> {
-    // A place with four neighbours on each side.
-    #[tactic(auto, using(crate::proofs::Windows::largest_part, crate::proofs::Windows::largest_at))]
-    fn smooth_at(&self, i: usize) -> u32
-        requires { (4 ≤ i) × (i + 4 < length self.now.values.now) }
-        ensures { result ≡ smoothed self.now.values.now i }
-    {
-        let s = self.values;
-        let before = largest_of_four(&s[i - 4..i]);
-        let behind = largest_of_four(&s[i + 1..i + 5]);
-        larger_score(s[i], smaller_score(before, behind))
-    }
-
-    // The first and last four are as in the list; those between have four neighbours on each side.
-    #[tactic(auto, using(crate::proofs::Smoothing::smooth_begun))]
-    fn smooth_into(&self, t: &mut [u32])
-        requires { length self.now.values.now ≤ length t.old }
-        ensures { AtFront (smooth self.now.values.now) t.old t.new }
-    {
-        let n = self.values.len();
-        lists::copy_front(self.values, n, t);
-        for i in 4..n - 4 {
-            t[i] = self.smooth_at(i);
-        }
-    }
-
-    #[tactic(auto, using(crate::proofs::Entries::exact), unfolding(crate::specs::Lines::line_threshold))]
-    fn line_threshold(&self) -> f32
-        ensures { result ≡ line_threshold self.now.values.now }
-    {
-        let n = self.values.len();
-        let j = binary32::trunc(0.85 * n as f32) as usize;
-        let high = rank::entry_of(self.values, j, MOST);
-        let last = rank::entry_of(self.values, n - 1, MOST);
-        (high as f32 + last as f32 * 0.75) / 2.0
-    }
-
     // Few places reach the threshold, so it is tested first.
     #[tactic(auto, using(crate::proofs::Entries::exact), unfolding(crate::specs::Lines::is_line))]
     fn is_line(&self, th: f32, i: usize) -> bool
@@ -171,12 +170,11 @@ pub fn find_lines(s: &[u32], t: &mut [u32], lines: &mut [u32]) -> usize
     ensures counted { result ≡ length (lines_of s.now) }
     ensures front { AtFront (lines_of s.now) lines.old lines.new }
 {
-    let scores = Scores { values: s };
-    scores.smooth_into(t);
+    smooth_into(s, t);
     let smoothed = Scores {
         values: &t[..s.len()],
     };
-    smoothed.collect_lines(scores.line_threshold(), lines)
+    smoothed.collect_lines(line_threshold(s), lines)
 }
 
 // ---- gaps and their estimate
