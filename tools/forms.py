@@ -34,16 +34,18 @@ def by_lines(pattern):
 def functions():
     for f in files():
         text = open(f).read()
-        for m in re.finditer(r'^ *(?:pub )?(?:extern "C" )?fn (\w+)(?:<[^(]*>)?\(([^)]*)\)([^{;]*(?:\n    [^{\n]*\{[^\n]*)*)', text, re.M):
-            params = [p for p in m.group(2).split(',') if p.strip() and 'self' not in p]
-            yield f, text.count('\n', 0, m.start()) + 1, m.group(1), params, m.group(3)
+        for m in re.finditer(r'^( *)(?:pub(?:\(crate\))? )?(?:extern "C" )?fn (\w+)(?:<[^(]*>)?\(([^)]*)\)', text, re.M):
+            params = [p for p in m.group(3).split(',') if p.strip() and 'self' not in p]
+            end = re.search('\n%s\\{\n|;\n| \\{\n' % m.group(1), text[m.end():])
+            clauses = text[m.end():m.end() + (end.start() if end else 0)]
+            yield f, text.count('\n', 0, m.start()) + 1, m.group(2), params, clauses
 
 
 def facts():
     """Names of facts in the `requires` of three or more functions of a crate."""
     seen = collections.defaultdict(set)
     for f, n, name, params, clauses in functions():
-        for c in re.findall(r'requires[^{]*\{(.*)', clauses):
+        for c in re.findall(r'requires\b[^{]*\{(.*?)\}(?=\s*(?:requires|ensures|$))', clauses, re.S):
             for w in set(re.findall(r'\b([A-Z][A-Za-z0-9]+)\b', c)):
                 seen[(f.split('/')[1], w)].add(name)
     for (crate, fact), where in sorted(seen.items()):
