@@ -7,7 +7,8 @@ use Rattle.strips.specs.Strip.{column_scores, row_scores}
 use Rattle.strips.specs.Inner.{place_count}
 use Rattle.refusal.specs.Refusal.{numbered}
 use Rattle.reading.specs.declared.Reading.{Reading}
-use Rattle.reading.specs.Reading.{gap_number, quarters_of}
+use Rattle.reading.specs.Reading.{quarters_of}
+use Rattle.reading.specs.Inner.{gap_number}
 use Rattle.axes.specs.declared.Readings.{Readings}
 
 -- how many scores both axes have

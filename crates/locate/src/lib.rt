@@ -9,7 +9,7 @@ ghost use Rattle.std.specs.Prelude.{◌≡◌, false, [], ◌+◌, ◌-◌, ◌*
 ghost use Rattle.board.specs.Board.{least_located, sides_outside};
 ghost use Rattle.board.specs.Inner.{FitPlanes};
 ghost use Rattle.refusal.specs.Refusal.{number, answer_of, numbered};
-ghost use Rattle.reading.specs.Reading.{gap_number};
+ghost use Rattle.reading.specs.Inner.{gap_number};
 ghost use Rattle.axes.specs.Inner.{Fits32};
 ghost use Rattle.locate.specs.Locate as Spec;
 ghost use Rattle.locate.specs.Locate.{lent, slices_short, checked, LocateGives};

@@ -14,7 +14,8 @@ use Rattle.reading.specs.declared.Reading.{Reading}
 use Rattle.std.specs.Prelude.{Result, Ok, Err}
 use Rattle.reading.specs.declared.Gap.{Gap}
 use Rattle.reading.specs.declared.Gap.TheVariants.{Missing, Wide}
-use Rattle.reading.specs.Reading.{remaining, accepted, gap_answer, gap_number, quarters_of, pitched, line_answer, reading_of, line_of, answer_of, LineGives}
+use Rattle.reading.specs.Reading.{remaining, accepted, gap_answer, quarters_of, pitched, line_answer, reading_of, line_of, answer_of, LineGives}
+use Rattle.reading.specs.Inner.{gap_number}
 
 -- ---- what the lines call for
 

@@ -1,10 +1,16 @@
 -- For the code alone: no contract of an entry point reaches these.
 use Rattle.std.specs.Prelude.{ℕ, ◌+◌, ◌-◌, ◌*◌, ◌≤◌, ◌<◌, ◌≡◌, List, length, get_or, take, drop, Result, Ok, Err}
 use Rattle.reading.specs.declared.Gap.{Gap}
+use Rattle.reading.specs.declared.Gap.TheVariants.{Missing, Wide}
 use Rattle.reading.specs.declared.Reading.{Reading}
 use Rattle.reading.specs.declared.Remaining.{Remaining}
 use Rattle.lines.specs.Lines.{lines_of, estimate}
-use Rattle.reading.specs.Reading.{remaining, gap_answer, gap_number}
+use Rattle.reading.specs.Reading.{remaining, gap_answer}
+
+-- why the lines are not read, as `gap_answer` has it
+abbrev pub gap_number : Gap → ℕ
+gap_number Missing = 6
+gap_number Wide = 7
 
 -- what the search asks of e, of the lines that remain, and of the row
 pub record Readable (e : ℕ) (lines : List ℕ) (room : ℕ) : Type 0 where

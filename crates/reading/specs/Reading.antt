@@ -4,8 +4,6 @@ use Rattle.std.specs.Float.{binary32}
 use Rattle.std.specs.Float.Ieee.{div, of_bits}
 use Rattle.binary32.specs.Binary32.{float, trunc}
 use Rattle.reading.specs.declared.Reading.{Reading}
-use Rattle.reading.specs.declared.Gap.{Gap}
-use Rattle.reading.specs.declared.Gap.TheVariants.{Missing, Wide}
 use Rattle.reading.specs.declared.Line.{Line}
 use Rattle.lines.specs.Lines.{largest, lines_of, wide_gaps, estimate, drop_first, drop_last}
 use Rattle.votes.specs.Votes.{winner}
@@ -31,11 +29,6 @@ accepted e lines =
 -- the refusals that the lines call for: 6 where no gap is above 5, 7 where e is 206 or more, else 0
 abbrev pub gap_answer : List ℕ → ℕ
 gap_answer lines = cond (eqb (length (wide_gaps lines)) 0) 6 (cond (leb 206 (estimate lines)) 7 0)
-
--- the same two by themselves
-abbrev pub gap_number : Gap → ℕ
-gap_number Missing = 6
-gap_number Wide = 7
 
 -- the reading of a list that is fit
 unfoldable pub quarters_of : List ℕ → Result (Reading ℕ) ℕ

@@ -6,8 +6,8 @@
 ghost use Rattle.std.specs.Prelude.{◌≡◌, ℕ, ◌+◌, ◌-◌, ◌*◌, ◌≤◌, ◌<◌, length, get_or};
 ghost use Rattle.refusal.specs.Refusal.{number, answer_of, numbered};
 ghost use Rattle.lines.specs.Inner.{InLimits};
-ghost use Rattle.reading.specs.Reading.{gap_number, pitch_of, count_of, accepted, quarters_of, line_answer, reading_of, line_of, LineGives};
-ghost use Rattle.reading.specs.Inner.{Readable, RemainingGives};
+ghost use Rattle.reading.specs.Reading.{pitch_of, count_of, accepted, quarters_of, line_answer, reading_of, line_of, LineGives};
+ghost use Rattle.reading.specs.Inner.{gap_number, Readable, RemainingGives};
 
 use refusal::Refusal;
 

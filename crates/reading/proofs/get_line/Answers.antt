@@ -2,7 +2,8 @@ use Rattle.std.proofs.Common.{◌≡◌, ◌∙◌, ◌*◌, Err, Ok, length, re
 use lib.Seq.{drop_at, length-take-le}
 use Rattle.refusal.specs.Refusal.{number, numbered}
 use Rattle.refusal.proofs.Numbers.{number_some}
-use Rattle.reading.specs.Reading.{gap_number, pitched}
+use Rattle.reading.specs.Reading.{pitched}
+use Rattle.reading.specs.Inner.{gap_number}
 use Rattle.reading.proofs.Answers.{line_fit, declined, taken, line_gives}
 use Rattle.reading.proofs.Laws.{quarters_pitched}
 use Rattle.reading.proofs.get_line.Goals as goal
