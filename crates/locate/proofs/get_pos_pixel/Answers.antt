@@ -2,79 +2,58 @@
 use Rattle.std.proofs.Common.{◌∙◌, refl, sym, arith}
 use lib.ListN.{length-take}
 use lib.Seq.{drop_at, length-take-le}
-use Rattle.locate.specs.Locate.{lent}
 use Rattle.locate.proofs.Checks.{fit}
 use Rattle.locate.proofs.Working.{accepts}
 use Rattle.locate.proofs.get_pos_pixel.Goals as goal
 
 pub overflow_mul-n : goal.overflow_mul-n
 overflow_mul-n c =
-    let a = c.args in
-    let slices = lent a.planes.now a.edges.now a.scores.now a.scratch_f32.now a.scratch_u8.now a.scratch_u32.now in
-    let fits = fit a.b a.factor slices (sym c.in-Ok.ensures.answer) in
+    let fits = fit c.args.b c.args.factor _ (sym c.in-Ok.ensures.answer) in
     omega (arith, fits.1.sides.area)
 
 pub overflow_add-m : goal.overflow_add-m
 overflow_add-m c =
-    let a = c.args in
-    let slices = lent a.planes.now a.edges.now a.scores.now a.scratch_f32.now a.scratch_u8.now a.scratch_u32.now in
-    let fits = fit a.b a.factor slices (sym c.in-Ok.ensures.answer) in
+    let fits = fit c.args.b c.args.factor _ (sym c.in-Ok.ensures.answer) in
     omega (arith, fits.1.sides.high_h, fits.1.sides.high_w)
 
 pub overflow_mul-m : goal.overflow_mul-m
 overflow_mul-m c =
-    let a = c.args in
-    let slices = lent a.planes.now a.edges.now a.scores.now a.scratch_f32.now a.scratch_u8.now a.scratch_u32.now in
-    let fits = fit a.b a.factor slices (sym c.in-Ok.ensures.answer) in
+    let fits = fit c.args.b c.args.factor _ (sym c.in-Ok.ensures.answer) in
     omega (arith, fits.1.sides.high_h, fits.1.sides.high_w)
 
 pub slice_bounds-work-end : goal.slice_bounds-work-end
 slice_bounds-work-end c =
-    let a = c.args in
-    let slices = lent a.planes.now a.edges.now a.scores.now a.scratch_f32.now a.scratch_u8.now a.scratch_u32.now in
-    let fits = fit a.b a.factor slices (sym c.in-Ok.ensures.answer) in
+    let fits = fit c.args.b c.args.factor _ (sym c.in-Ok.ensures.answer) in
     omega (arith, fits.2.f32_in)
 
 pub slice_bounds-work-end-2 : goal.slice_bounds-work-end-2
 slice_bounds-work-end-2 c =
-    let a = c.args in
-    let slices = lent a.planes.now a.edges.now a.scores.now a.scratch_f32.now a.scratch_u8.now a.scratch_u32.now in
-    let fits = fit a.b a.factor slices (sym c.in-Ok.ensures.answer) in
+    let fits = fit c.args.b c.args.factor _ (sym c.in-Ok.ensures.answer) in
     sym (length-take-le _ _ (omega (arith, fits.2.f32_in)))
 
 pub slice_bounds-work-end-3 : goal.slice_bounds-work-end-3
 slice_bounds-work-end-3 c =
-    let a = c.args in
-    let slices = lent a.planes.now a.edges.now a.scores.now a.scratch_f32.now a.scratch_u8.now a.scratch_u32.now in
-    let fits = fit a.b a.factor slices (sym c.in-Ok.ensures.answer) in
+    let fits = fit c.args.b c.args.factor _ (sym c.in-Ok.ensures.answer) in
     omega (arith, fits.2.u8_in)
 
 pub slice_bounds-work-end-4 : goal.slice_bounds-work-end-4
 slice_bounds-work-end-4 c =
-    let a = c.args in
-    let slices = lent a.planes.now a.edges.now a.scores.now a.scratch_f32.now a.scratch_u8.now a.scratch_u32.now in
-    let fits = fit a.b a.factor slices (sym c.in-Ok.ensures.answer) in
+    let fits = fit c.args.b c.args.factor _ (sym c.in-Ok.ensures.answer) in
     sym (length-take-le _ _ (omega (arith, fits.2.u8_in)))
 
 pub slice_bounds-work-end-5 : goal.slice_bounds-work-end-5
 slice_bounds-work-end-5 c =
-    let a = c.args in
-    let slices = lent a.planes.now a.edges.now a.scores.now a.scratch_f32.now a.scratch_u8.now a.scratch_u32.now in
-    let fits = fit a.b a.factor slices (sym c.in-Ok.ensures.answer) in
+    let fits = fit c.args.b c.args.factor _ (sym c.in-Ok.ensures.answer) in
     omega (arith, fits.2.u32_in)
 
 pub slice_bounds-work-end-6 : goal.slice_bounds-work-end-6
 slice_bounds-work-end-6 c =
-    let a = c.args in
-    let slices = lent a.planes.now a.edges.now a.scores.now a.scratch_f32.now a.scratch_u8.now a.scratch_u32.now in
-    let fits = fit a.b a.factor slices (sym c.in-Ok.ensures.answer) in
+    let fits = fit c.args.b c.args.factor _ (sym c.in-Ok.ensures.answer) in
     sym (length-take-le _ _ (omega (arith, fits.2.u32_in)))
 
 pub work-requires : goal.work-requires
 work-requires c =
-    let a = c.args in
-    let slices = lent a.planes.now a.edges.now a.scores.now a.scratch_f32.now a.scratch_u8.now a.scratch_u32.now in
-    let fits = fit a.b a.factor slices (sym c.in-Ok.ensures.answer) in
+    let fits = fit c.args.b c.args.factor _ (sym c.in-Ok.ensures.answer) in
     rw c.in-Ok.ensures.value
     (record {
       fit = fits.1;
@@ -89,12 +68,10 @@ work-requires c =
 
 pub returns : goal.returns
 returns c =
-    let a = c.args in
-    let slices = lent a.planes.now a.edges.now a.scores.now a.scratch_f32.now a.scratch_u8.now a.scratch_u32.now in
-    let fits = fit a.b a.factor slices (sym c.in-Ok.ensures.answer) in
+    let fits = fit c.args.b c.args.factor _ (sym c.in-Ok.ensures.answer) in
     let after = c.work.new in
     let same = c.work.auto in
-    accepts a.b a.factor slices _ _ _ (sym c.in-Ok.ensures.answer) (rw c.in-Ok.ensures.value at c.work.ensures)
+    accepts c.args.b c.args.factor _ _ _ _ (sym c.in-Ok.ensures.answer) (rw c.in-Ok.ensures.value at c.work.ensures)
     refl refl refl refl refl refl
     (record {
       f32_kept = drop_at after.scratch_f32 _ _ (same.scratch_f32 ∙ length-take-le _ _ fits.2.f32_in);
