@@ -1,22 +1,22 @@
 -- Single values: what the tests in the code tell of them, and the magnitude from the bits. Assumes nothing.
 use Rattle.std.proofs.Common.{◌≡◌, ℕ, zero, suc, ◌+◌, ◌-◌, ◌*◌, ◌/◌, ◌%◌, ◌^◌, ◌<◌, ◌≤◌, Bool, true, false, cond, not, T, pos, refl, true≢false, mod-eq_of_lt, one-mul, le-div_iff_mul-le, arith, ltb-false, le-leb}
 use mathlib.Core.Bool.{false≢true}
-use lib.Ieee.{Float, nan, inf, fin, binary32, lt, ne, up, down, fits, is_nan, nan_bits, in_float, of_int, to_unsigned, of_bits, to_bits, top}
+use lib.Ieee.{Float, nan, inf, fin, binary32, lt, up, down, fits, is_nan, nan_bits, in_float, of_int, to_unsigned, of_bits, to_bits, top}
 use lib.Ieee.Fits.{down_pos}
 use lib.Ieee.Exact.{HasValue}
 use lib.Ieee.Back.{round_whole}
 use lib.Ieee.Bits.{of_bits-to_bits, to_bits-lt, nan_bits_is}
-use Rattle.binary32.specs.Binary32.{magnitude}
+use Rattle.binary32.specs.Binary32.{magnitude, unit}
 
 -- a test that was passed, as the kit's laws take it
 pub T_of : {b : Bool} → b ≡ true → T b
 T_of e = rw e tt
 
-pub no_nan : (x : Float) → ne x x ≡ false → T (not (is_nan x))
-unfolding is_nan ne
-no_nan nan e = absurd (true≢false e)
-no_nan (inf s) e = tt
-no_nan (fin s m k) e = tt
+pub nan_no_unit : (x : Float) → T (is_nan x) → unit x ≡ false
+unfolding is_nan to_bits unit
+nan_no_unit nan t = refl
+nan_no_unit (inf s) t = absurd t
+nan_no_unit (fin s m k) t = absurd t
 
 -- whole numbers up to 2 ^ 24 are values: what a cast to binary32 asks
 pub in_float_lem : {n : ℕ} → n ≤ 16777216 → T (in_float binary32 (pos n))

@@ -8,21 +8,18 @@
 // proofs/Share: a share of m, cut to a whole number, is below m.
 #![tactic(auto)]
 
-ghost use Rattle.std.specs.Prelude.{◌≡◌, not, T, is_nan};
+ghost use Rattle.std.specs.Prelude.{◌≡◌, not, T, is_nan, Some, None};
 ghost use Rattle.std.specs.Float.{binary32};
 ghost use Rattle.std.specs.Float.Ieee.{to_bits};
 ghost use Rattle.binary32.specs.Binary32 as Spec;
 ghost use Rattle.binary32.specs.Inner as Inner;
 
 // Whether the bits are at most 3F800000 hexadecimal. The bits of what is no number may not be read, so it is tested first.
+#[tactic(auto, using(crate::proofs::Values::nan_no_unit), unfolding(crate::specs::Binary32::unit))]
 pub fn unit(x: f32) -> bool
     ensures { result ≡ Spec.unit x }
 {
-    if x != x {
-        false
-    } else {
-        f32::to_bits(x) <= 0x3F800000
-    }
+    !x.is_nan() && x.to_bits() <= 0x3F800000
 }
 
 // The sign bit is the highest of 32: the remainder clears it.
@@ -30,7 +27,7 @@ pub fn magnitude(x: f32) -> f32
     requires { T (not (is_nan x)) }
     ensures { result ≡ Spec.magnitude x }
 {
-    f32::from_bits(f32::to_bits(x) % 0x80000000)
+    f32::from_bits(x.to_bits() % 0x80000000)
 }
 
 pub fn larger(a: f32, b: f32) -> f32
@@ -53,17 +50,17 @@ pub fn trunc(x: f32) -> u64
         if x < 18446744073709551616.0 {
             std::num::truncating_f32_to_u64(x)
         } else {
-            18446744073709551615
+            u64::MAX
         }
     } else {
         0
     }
 }
 
-// The bits; of what is no number, the largest u32, which no number has.
-pub fn bits(x: f32) -> u32
-    ensures number { T (not (is_nan x)) → result ≡ to_bits binary32 x }
-    ensures none { T (is_nan x) → result ≡ 4294967295 }
+// The bits, if it is a number.
+pub fn bits(x: f32) -> Option<u32>
+    ensures number { T (not (is_nan x)) → result ≡ Some (to_bits binary32 x) }
+    ensures none { T (is_nan x) → result ≡ None }
 {
-    if x.is_nan() { u32::MAX } else { x.to_bits() }
+    if x.is_nan() { None } else { Some(x.to_bits()) }
 }

@@ -122,7 +122,7 @@ impl Board {
 fn outside(least: usize, most: usize, n: usize) -> bool
     ensures { result ≡ Spec.outside least most n }
 {
-    n < least || most < n
+    !(least..=most).contains(&n)
 }
 
 // Whether a side is below `least` or above the largest.

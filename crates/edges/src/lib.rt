@@ -44,7 +44,7 @@ pub fn mark(th: f32, g: &[f32], out: &mut [u8])
     requires { length g.now ≤ length out.old }
     ensures { AtFront (marks th (length g.now) g.now) out.old out.new }
 {
-    for k in 0..g.len() {
-        out[k] = u8::from(th <= g[k]);
+    for (k, x) in g.iter().enumerate() {
+        out[k] = u8::from(th <= *x);
     }
 }

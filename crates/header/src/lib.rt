@@ -55,10 +55,10 @@ fn digits_end(bytes: &[u8], from: usize) -> usize
 // Whether the places from `from` to `end` are one to four, and the byte behind them is the mark.
 #[tactic(auto, unfolding(crate::specs::Header::four_at_most))]
 fn four_at_most(bytes: &[u8], from: usize, end: usize, mark: u8) -> bool
-    requires { from ≤ 65536 }
+    requires { (from ≤ 65536) × (0 < mark) }
     ensures { result ≡ four_at_most bytes.now from end mark }
 {
-    from < end && end <= from + 4 && bytes.get(end).copied().unwrap_or(0) == mark
+    from < end && end <= from + 4 && bytes.get(end) == Some(&mark)
 }
 
 // The number written from `from` to `end`.
@@ -129,7 +129,7 @@ pub fn header(bytes: &[u8]) -> Result<Sides, Refusal>
 }
 
 // What stands behind the first two lines.
-pub fn pixels<'a>(bytes: &'a [u8], at: usize) -> &'a [u8]
+pub fn pixels(bytes: &[u8], at: usize) -> &[u8]
     ensures { result.now ≡ drop at bytes.now }
 {
     &bytes[at.min(bytes.len())..]

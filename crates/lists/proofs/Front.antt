@@ -10,7 +10,7 @@ use lib.ListN.{length, take, drop, get_or, set, replicate, length-set, length-ap
 use lib.ListN.{length-replicate, get_or-replicate, replicate-append-replicate}
 use lib.Seq.{take_at, take-append-le, length-take-le, drop_at, drop-drop, drop-length, drop-append-le}
 use lib.Seq.{set_split, get_or-append-add, get_or-drop, get_or-take}
-use borrow.Rule.Slice.PartMut.{mid_of, put_mid, same_len_mid}
+use borrow.Rule.Slice.PartMut.{mid_of, put_mid, same_len_mid, mid_len}
 use Rattle.lists.specs.Front.{AtFront}
 use Rattle.lists.specs.Inner.{Placed}
 use Rattle.lists.specs.Tab.{tab, grid}
@@ -183,15 +183,6 @@ module _ {A : Type 0} where
       record { len = length-set out (at + n) v; is = rw (add-one (at + n)) (set_split out (at + n) v (rw x.len b)) } in
       rw (tab_more n value, ← e) (placed_join x one (rw l) (omega arith))
 
-  -- a row of `size` more
-  pub placed_row : (value row : ℕ → A) (i size : ℕ) {from at : ℕ} {lent mid after : List A} → Placed (tab (i * size) value) from lent mid
-      → Placed (tab size row) at mid after → at ≡ from + i * size → at ≤ length lent → ((j : ℕ) → j < size → row j ≡ value (i * size + j))
-      → Placed (tab ((i + 1) * size) value) from lent after
-  placed_row value row i size {from} x y s h e =
-      let more : (i + 1) * size ≡ i * size + size = omega (arith, add-mul i 1 size, one-mul size) in
-      rw (more, tab_add (i * size) size value, ← tab_same size row (λ j. value (i * size + j)) e)
-      (placed_join x y (rw (length_tab_from 0 (i * size) value) s) h)
-
   -- what is read back
   pub front_here : (z : A) (f : ℕ → A) (n r : ℕ) {lent out : List A} → AtFront (tab n f) lent out → r < n → get_or out r z ≡ f r
   front_here z f n r h b = front_within z r h (omega (arith, length_tab_from 0 n f)) ∙ get_or_tab n r f z b
@@ -231,3 +222,13 @@ module _ {A : Type 0} where
       → Placed (tab columns (f i)) (i * columns) mid out
       → AtFront (grid (i + 1) columns f) lent out
   front_row f i columns h x = rw (grid_more i columns f) (placed_front h (length_tab_from 0 (i * columns) _) x)
+
+  -- and a row of it that was written through the part where it stands
+  pub front_row_part : (f : ℕ → ℕ → A) (i columns : ℕ) {lent s last : List A} → AtFront (grid i columns f) lent s
+      → i * columns + columns ≤ length s
+      → last ≡ tab columns (f i)
+      → AtFront (grid (i + 1) columns f) lent (put_mid (i * columns) (i * columns + columns - i * columns) s last)
+  front_row_part f i columns {s = s} h fits e =
+      let from = i * columns in
+      let long : length (tab columns (f i)) ≡ from + columns - from = omega (arith, length_tab_from 0 columns (f i)) in
+      rw e (front_row f i columns h (placed_part from (from + columns - from) s (tab columns (f i)) (mid_len from (from + columns) s fits) long))

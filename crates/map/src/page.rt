@@ -49,8 +49,8 @@ impl Page<'_> {
         ensures { Puts (tab (length columns.now) (λ y. mark_at self.now.board self.now.planes.now i (get_or columns.now y 0)))
             at out.old result out.new }
     {
-        for y in 0..columns.len() {
-            out[at + y] = self.mark_at(i, columns[y]);
+        for (y, column) in columns.iter().enumerate() {
+            out[at + y] = self.mark_at(i, *column);
         }
         at + columns.len()
     }

@@ -1,14 +1,17 @@
 -- Entry j of a sorted list by counting: its key is at most v exactly where more than j entries are. Assumes nothing.
 use Prim.Native.Nat.{ℕ, ◌+◌, ◌≤◌, ◌<◌}
-use mathlib.Core.Path.{◌≡◌, sym, ◌∙◌}
+use mathlib.Core.Path.{◌≡◌, refl, sym, ◌∙◌}
+use mathlib.Core.Bool.{Bool, true, false, cond}
 use mathlib.Core.List.{List}
 use native.Mathlib.Nat.{le_antisymm, le_refl, le_of_suc-le-suc, lt_of_not-le, lt_irrefl}
 use native.Mathlib.Omega.{arith}
-use borrow.Author.Tests.{leb-true, le-leb, lt-ltb, ltb-true}
+use borrow.Author.Tests.{leb-true, le-leb, lt-ltb, ltb-true, ltb-false}
 use lib.Dec.{leb, ltb}
 use lib.ListN.{length, get_or-eq_default}
+use Rattle.std.specs.Prelude.{Some, None}
+use Rattle.std.specs.Option.{unwrap_or}
 use Rattle.rank.specs.Rank.{sort, entry}
-use Rattle.rank.specs.Inner.{count_at_most}
+use Rattle.rank.specs.Inner.{count_at_most, entry_at}
 use Rattle.rank.proofs.Members.{length_sort}
 use Rattle.rank.proofs.Sorted.{sorted_sort, count_sort, above, below}
 
@@ -29,6 +32,14 @@ module _ {A : Type 0} (key : A → ℕ) (d : A) where
   pub entry_none : (l : List A) (j : ℕ) → length l ≤ j → entry key d l j ≡ d
   unfolding entry
   entry_none l j h = get_or-eq_default (sort key l) d {n = j} (omega (arith, length_sort key l))
+
+  -- d in place of none
+  pub entry_or : (l : List A) (j : ℕ) → unwrap_or (entry_at key d l j) d ≡ entry key d l j
+  entry_or l j = go (ltb j (length l)) refl
+    where
+      go : (t : Bool) → ltb j (length l) ≡ t → unwrap_or (cond t (Some (entry key d l j)) None) d ≡ entry key d l j
+      go true e = refl
+      go false e = sym (entry_none l j (ltb-false j (length l) e))
 
   -- x has the key of entry j if its key is at most v exactly where more than j entries are
   pub entry_key : (x : A) (l : List A) (j : ℕ) → j < length l → ((v : ℕ) → leb (key x) v ≡ ltb j (count_at_most key v l))

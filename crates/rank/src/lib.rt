@@ -3,18 +3,18 @@
 #![tactic(auto)]
 
 ghost use Rattle.std.specs.Prelude.{◌≡◌, ◌≤◌, ◌^◌, length};
-ghost use Rattle.rank.specs.Rank.{self, entry};
-ghost use Rattle.rank.specs.Inner.{count_at_most};
+ghost use Rattle.rank.specs.Rank.{self};
+ghost use Rattle.rank.specs.Inner.{count_at_most, entry_at};
 
 use lists::AtMost;
 
-// Entry j of s sorted rising, where no entry is above `most`; 0 where there is no entry j. It halves the range of values.
-pub fn entry_of(s: &[u32], j: usize, most: u32) -> u32
+// Entry j of s sorted rising, if there is one, where no entry is above `most`. It halves the range of values.
+pub fn entry_of(s: &[u32], j: usize, most: u32) -> Option<u32>
     requires { (length s.now ≤ 2 ^ 24) × (count_at_most self most s.now ≡ length s.now) }
-    ensures { result ≡ entry self 0 s.now j }
+    ensures { result ≡ entry_at self 0 s.now j }
 {
     if s.len() <= j {
-        return 0;
+        return None;
     }
     let mut lo: u32 = 0;
     let mut hi: u32 = most;
@@ -26,5 +26,5 @@ pub fn entry_of(s: &[u32], j: usize, most: u32) -> u32
             lo = mid + 1;
         }
     }
-    lo
+    Some(lo)
 }

@@ -16,10 +16,10 @@ fn drawn() -> [u8; 1024] {
     pixels
 }
 
-// The values of one plane, or of none, each in a line of its own.
+// The bits of the values of one plane, or of none, each in a line of its own; the largest u32 is no number.
 fn show(rt: &impl Print, plane: &[f32]) -> io::Result<()> {
     for x in plane {
-        println!(rt; "{}", binary32::bits(*x))?;
+        println!(rt; "{}", binary32::bits(*x).unwrap_or(u32::MAX))?;
     }
     Ok(())
 }

@@ -11,12 +11,17 @@ use std::io::{self, Read};
 // The longest side of a stored screen.
 const MOST: usize = 210;
 
+// The bits of a value; the largest u32 is no number.
+fn bits(x: f32) -> u32 {
+    binary32::bits(x).unwrap_or(u32::MAX)
+}
+
 // The bits of a plane value, after a blank. The planes are never so short that 0 is printed for it.
 fn value(rt: &impl Print, planes: &[f32], at: usize) -> io::Result<()> {
     if planes.len() <= at {
         return print!(rt; " 0");
     }
-    print!(rt; " {}", binary32::bits(planes[at]))
+    print!(rt; " {}", bits(planes[at]))
 }
 
 // The record, each number after a blank.
@@ -31,8 +36,8 @@ fn record(rt: &impl Print, b: Board) -> io::Result<()> {
         b.c0,
         b.r,
         b.c,
-        binary32::bits(b.pixelr),
-        binary32::bits(b.pixelc)
+        bits(b.pixelr),
+        bits(b.pixelc)
     )
 }
 
@@ -100,7 +105,7 @@ impl Buffers {
         if stream::read_full(from, &mut self.pixels[..n]) != Ok(n) {
             return Ok(false);
         }
-        for factor in Board::LEAST_FACTOR..Board::MOST_FACTOR + 1 {
+        for factor in Board::LEAST_FACTOR..=Board::MOST_FACTOR {
             self.replay(rt, factor, height, width)?;
         }
         Ok(true)

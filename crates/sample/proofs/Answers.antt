@@ -1,14 +1,17 @@
 -- What the checks of a cell tell, and what each way out of a call leaves. Assumes nothing.
 use Prim.Native.Nat.{ℕ, zero, suc, ◌*◌, ◌≤◌, ◌<◌}
-use mathlib.Core.Path.{◌≡◌, refl}
+use mathlib.Core.Path.{◌≡◌, refl, sym, ◌∙◌}
 use mathlib.Core.Bool.{Bool, true, false, not, cond, ◌&&◌, ◌||◌}
 use mathlib.Core.List.{List}
 use native.Mathlib.Nat.{not-suc-le-zero, mul-le-mul}
 use native.Mathlib.Omega.{arith}
-use borrow.Author.Tests.{ltb-true, ltb-false, le-ltb, ne_eqb}
+use borrow.Author.Tests.{ltb-true, ltb-false, lt-ltb, le-ltb, ne_eqb}
 use lib.Dec.{ltb, eqb}
 use lib.Ieee.{Float}
-use lib.ListN.{length}
+use lib.ListN.{length, get_or}
+use Rattle.std.specs.Bool.{MatchBool}
+use Rattle.std.specs.List.{range_with_len, AllWithin, HoldsAt}
+use Rattle.std.proofs.lemmas.List.FromFn.{length-range_with_len, get_or-range_with_len}
 use Rattle.lists.specs.Front.{AtFront}
 use Rattle.lists.proofs.Front.{front_none}
 use Rattle.board.specs.declared.Board.{Board}
@@ -43,6 +46,23 @@ not_below f limit n i b h = go (all_below f limit n) refl
     go : (t : Bool) → all_below f limit n ≡ t → t ≡ false
     go true e = let l = below_at f limit n e i b in absurd (omega arith)
     go false e = refl
+
+all_below_all : (f : ℕ → ℕ) (limit n : ℕ) → ((i : ℕ) → i < n → f i < limit) → all_below f limit n ≡ true
+all_below_all f limit zero h = refl
+all_below_all f limit (suc n) h = rw (all_below_all f limit n (λ i b. h i (omega arith)), lt-ltb (f n) limit (h n (omega arith)))
+
+-- the same by a search of the numbers below n for one that is not below
+pub all_below_by : (f : ℕ → ℕ) (limit n : ℕ) {r : Bool}
+    → (let l = range_with_len 0 n in
+    MatchBool r (AllWithin (λ i. f i < limit) l 0 (length l)) ((k : ℕ) × (k < length l) × HoldsAt (λ i. limit ≤ f i) l k))
+    → r ≡ all_below f limit n
+all_below_by f limit n {r = true} h =
+    let at : (k : ℕ) → k < n → get_or (range_with_len 0 n) k 0 ≡ k = λ k b. omega (arith, get_or-range_with_len 0 n k 0 b) in
+    sym (all_below_all f limit n (λ k b. rw (at k b) at (h k 0 (omega arith) (omega (arith, length-range_with_len 0 n)))))
+all_below_by f limit n {r = false} (k, b, above) =
+    let k-in : k < n = omega (arith, length-range_with_len 0 n) in
+    let e : get_or (range_with_len 0 n) k 0 ≡ k = omega (arith, get_or-range_with_len 0 n k 0 k-in) in
+    sym (not_below f limit n k k-in (rw e at (above 0)))
 
 -- numbers within the limits
 pub record NumbersIn (x y r₁ c₁ r₀ c₀ size : ℕ) : Type 0 where
@@ -125,6 +145,10 @@ cell_by_record b x y size room =
     (ltb most_size size) in
     rw both
     (record_first (pitch_outside b.pixelr || pitch_outside b.pixelc) _ _ _ _)
+
+pub by_record : (b : Board) (x y size room n : ℕ)
+    → n ≡ cond (eqb (record_answer b) 0) (later_answer b x y size room) (record_answer b) → n ≡ cell_answer b x y size room
+by_record b x y size room n e = e ∙ sym (cell_by_record b x y size room)
 
 -- where the numbers pass and the cell is on the board, the places decide
 pub decided : (b : Board) (x y size room : ℕ) → (pitch_outside b.pixelr || pitch_outside b.pixelc) ≡ false

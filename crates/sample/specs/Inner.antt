@@ -27,10 +27,10 @@ pub record AxisIn (corner offset x size : ℕ) : Type 0 where
   pub number_in : x ≤ most_number
   pub size_in : size ≤ most_size
 
--- the values at `columns` past `from`
-abbrev pub row_value : List Float → ℕ → List ℕ → ℕ → Float
-row_value planes from columns j = get_or planes (from + get_or columns j 0) nan
+-- the values of a row at `columns`
+abbrev pub row_value : List Float → List ℕ → ℕ → Float
+row_value row columns j = get_or row (get_or columns j 0) nan
 
--- the values at `rows` and `columns` of the plane that starts at `from`
-abbrev pub plane_value : List Float → ℕ → ℕ → List ℕ → List ℕ → ℕ → ℕ → Float
-plane_value planes from width rows columns i j = row_value planes (from + get_or rows i 0 * width) columns j
+-- the values at `rows` and `columns` of a plane whose rows are `width` long
+abbrev pub plane_value : List Float → ℕ → List ℕ → List ℕ → ℕ → ℕ → Float
+plane_value plane width rows columns i j = get_or plane (get_or rows i 0 * width + get_or columns j 0) nan

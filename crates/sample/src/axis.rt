@@ -77,11 +77,6 @@ impl Axis {
     pub fn inside(self, side: usize) -> bool
         ensures { result ≡ all_below (sampled_at self.corner self.offset self.pitch self.number self.size) side self.size }
     {
-        for i in 0..self.size {
-            if self.sampled_at(i) >= side {
-                return false;
-            }
-        }
-        true
+        (0..self.size).all(|i| self.sampled_at(i) < side)
     }
 }

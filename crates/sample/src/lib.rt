@@ -4,15 +4,15 @@
 // a cell takes).
 #![tactic(auto)]
 
-ghost use Rattle.std.specs.Prelude.{◌≡◌, ℕ, ◌+◌, ◌*◌, ◌≤◌, ◌<◌, length, get_or};
+ghost use Rattle.std.specs.Prelude.{◌≡◌, ℕ, ◌+◌, ◌*◌, ◌≤◌, ◌<◌, ◌&&◌, length, get_or};
 ghost use Rattle.lists.specs.Front.{AtFront};
 ghost use Rattle.lists.specs.Inner.{Placed};
 ghost use Rattle.lists.specs.Tab.{tab, grid};
 ghost use Rattle.refusal.specs.Refusal.{answer_of};
 ghost use Rattle.sample.specs.Sample as Spec;
-ghost use Rattle.sample.specs.Sample.{cell, cell_answer, SampleGives};
+ghost use Rattle.sample.specs.Sample.{row_at, column_at, all_below, cell, cell_answer, SampleGives};
 ghost use Rattle.sample.specs.Fit.{corner_above, record_answer, fit_answer};
-ghost use Rattle.sample.specs.Inner.{CellGives, row_value, plane_value};
+ghost use Rattle.sample.specs.Inner.{CellGives, AxisIn, row_value, plane_value};
 
 use board::Board;
 use refusal::Refusal;
@@ -70,7 +70,16 @@ fn on_board(b: Board, x: usize, y: usize) -> bool
     x < b.r && y < b.c
 }
 
+// Whether all places of a cell are in the picture.
+fn in_picture(b: Board, x: usize, y: usize, size: usize) -> bool
+    requires { AxisIn b.r_1 b.r0 x size × AxisIn b.c_1 b.c0 y size }
+    ensures { result ≡ (all_below (row_at b x size) b.height size && all_below (column_at b y size) b.width size) }
+{
+    Axis::rows(b, x, size).inside(b.height) && Axis::columns(b, y, size).inside(b.width)
+}
+
 // The refusals where the planes are fit: all is decided here, from numbers alone.
+#[tactic(auto, using(crate::proofs::Answers::by_record, crate::proofs::Fit::record_in))]
 fn check_cell(b: Board, x: usize, y: usize, size: usize, room: usize) -> Result<(), Refusal>
     ensures { answer_of result ≡ cell_answer b x y size room }
 {
@@ -84,50 +93,35 @@ fn check_cell(b: Board, x: usize, y: usize, size: usize, room: usize) -> Result<
     if room < 3 * (size * size) {
         return Err(Refusal::ShortSlice);
     }
-    if !Axis::rows(b, x, size).inside(b.height) {
-        return Err(Refusal::Outside);
-    }
-    if !Axis::columns(b, y, size).inside(b.width) {
+    if !in_picture(b, x, y, size) {
         return Err(Refusal::Outside);
     }
     Ok(())
 }
 
-// One row of a cell: the values at `columns` past `from`.
-fn copy_row(planes: &[f32], from: usize, columns: &[usize], out: &mut [f32], to: usize)
-    requires room { to + length columns.now ≤ length out.old }
-    requires places_in { (j : ℕ) → j < length columns.now → from + get_or columns.now j 0 < length planes.now }
-    ensures { Placed (tab (length columns.now) (row_value planes.now from columns.now)) to out.old out.new }
+// One row of a cell: the values of a picture's row at `columns`.
+fn copy_row(row: &[f32], columns: &[usize], out: &mut [f32])
+    requires room { length out.old ≡ length columns.now }
+    requires places_in { (j : ℕ) → j < length columns.now → get_or columns.now j 0 < length row.now }
+    ensures { out.new ≡ tab (length columns.now) (row_value row.now columns.now) }
 {
-    for j in 0..columns.len() {
-        out[to + j] = planes[from + columns[j]];
+    for (j, column) in columns.iter().enumerate() {
+        out[j] = row[*column];
     }
 }
 
-// One plane of a cell: the values at `rows` and `columns` of the plane that starts at `from`.
-fn copy_plane(
-    planes: &[f32],
-    from: usize,
-    width: usize,
-    rows: &[usize],
-    columns: &[usize],
-    out: &mut [f32],
-    to: usize,
-)
-    requires room { (length rows.now ≡ length columns.now) × (to + length rows.now * length columns.now ≤ length out.old) }
-    requires places_in { (i j : ℕ) → i < length rows.now → j < length columns.now →
-        from + get_or rows.now i 0 * width + get_or columns.now j 0 < length planes.now }
-    ensures { Placed (grid (length rows.now) (length columns.now) (plane_value planes.now from width rows.now columns.now)) to
-        out.old out.new }
+// One plane of a cell: the values at `rows` and `columns` of a plane whose rows are `width` long.
+fn copy_plane(plane: &[f32], width: usize, rows: &[usize], columns: &[usize], out: &mut [f32])
+    requires room { length out.old ≡ length rows.now * length columns.now }
+    requires rows_in { (i : ℕ) → i < length rows.now → get_or rows.now i 0 * width + width ≤ length plane.now }
+    requires columns_in { (j : ℕ) → j < length columns.now → get_or columns.now j 0 < width }
+    ensures { out.new ≡ grid (length rows.now) (length columns.now) (plane_value plane.now width rows.now columns.now) }
 {
-    for i in 0..rows.len() {
-        copy_row(
-            planes,
-            from + rows[i] * width,
-            columns,
-            out,
-            to + i * columns.len(),
-        );
+    let n = columns.len();
+    for (i, row) in rows.iter().enumerate() {
+        let from = row * width;
+        let to = i * n;
+        copy_row(&plane[from..from + width], columns, &mut out[to..to + n]);
     }
 }
 
@@ -139,15 +133,17 @@ fn copy_cell(b: Board, planes: &[f32], x: usize, y: usize, size: usize, out: &mu
 {
     let rows = Axis::rows(b, x, size).places();
     let columns = Axis::columns(b, y, size).places();
+    let n = b.height * b.width;
+    let m = size * size;
     for k in 0..3 {
+        let from = k * n;
+        let to = k * m;
         copy_plane(
-            planes,
-            k * (b.height * b.width),
+            &planes[from..from + n],
             b.width,
             &rows[..size],
             &columns[..size],
-            out,
-            k * (size * size),
+            &mut out[to..to + m],
         );
     }
 }

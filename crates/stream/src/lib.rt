@@ -17,7 +17,7 @@ pub fn read_full<R: Read>(from: &mut R, buf: &mut [u8]) -> Result<usize, usize>
     while n < buf.len() {
         match from.read(&mut buf[n..]) {
             Ok(0) => return Ok(n),
-            Ok(k) => n = n + k,
+            Ok(k) => n += k,
             Err(_) => return Err(n),
         }
     }

@@ -1,8 +1,8 @@
-use Rattle.std.proofs.Common.{◌≡◌, ◌∙◌, ◌*◌, sym, arith, rules}
+use Rattle.std.proofs.Common.{◌≡◌, ◌∙◌, ◌*◌, arith, rules}
 use native.Mathlib.Nat.{zero-mul}
-use Rattle.lists.proofs.Front.{front_none, front_row}
+use Rattle.lists.proofs.Front.{front_none, front_row_part}
 use Rattle.sample.proofs.Answers.{cell_in}
-use Rattle.sample.proofs.Cells.{cell_plane, places_are, place_in, plane_is, plane_fits}
+use Rattle.sample.proofs.Cells.{cell_plane, places_are, row_in, column_in, plane_is, plane_fits, plane_room}
 use Rattle.sample.proofs.copy_cell.Goals as goal
 
 pub rows-requires : goal.rows-requires
@@ -12,7 +12,11 @@ pub columns-requires : goal.columns-requires
 columns-requires c = (cell_in _ _ _ _ _ c.requires.answered).numbers.across
 
 pub loop-k-init : goal.loop-k-init
-loop-k-init c = (omega arith, rw zero-mul front_none)
+loop-k-init c = rw zero-mul front_none
+
+pub slice_bounds-copy_plane-end-in-loop-k-3 : goal.slice_bounds-copy_plane-end-in-loop-k-3
+slice_bounds-copy_plane-end-in-loop-k-3 c =
+    omega (arith, plane_fits (cell_in _ _ _ _ _ c.requires.answered) c.loop-k.k c.loop-k-test.true)
 
 pub copy_plane-requires : goal.copy_plane-requires
 copy_plane-requires c =
@@ -22,8 +26,9 @@ copy_plane-requires c =
     (rw (r.0, r.1, r.2, r.3, r.4) at c.places-rows.ensures)
     (rw (k.0, k.1, k.2, k.3, k.4) at c.places-columns.ensures) in
     record {
-      room = (p.rows_length ∙ sym p.columns_length, omega (arith, plane_fits c.args.planes.now p c.loop-k.k c.loop-k-test.true));
-      places_in = λ i j. place_in c.args.planes.now p c.loop-k.k i j c.requires.planes_there c.loop-k-test.true;
+      room = plane_room c.args.planes.now p c.loop-k.out c.loop-k.k c.loop-k-test.true (omega arith);
+      rows_in = λ i. row_in c.args.planes.now p c.loop-k.k i c.requires.planes_there c.loop-k-test.true;
+      columns_in = column_in c.args.planes.now p;
     }
 
 pub loop-k-preserved : goal.loop-k-preserved
@@ -33,11 +38,10 @@ loop-k-preserved c =
     let k = c.columns.ensures in
     let p = places_are c.places-rows.result c.places-columns.result (cell_in _ _ _ _ _ c.requires.answered) (search rules) (search rules)
     (rw (r.0, r.1, r.2, r.3, r.4) at c.places-rows.ensures)
-    (rw (k.0, k.1, k.2, k.3, k.4) at c.places-columns.ensures) in (
-      omega arith,
-      front_row (cell_plane s.b s.planes.now s.x s.y s.size) c.loop-k.k (s.size * s.size) c.loop-k.invariant.1
-          (rw (plane_is s.planes.now p c.loop-k.k) at c.copy_plane.ensures),
-    )
+    (rw (k.0, k.1, k.2, k.3, k.4) at c.places-columns.ensures) in
+    front_row_part (cell_plane s.b s.planes.now s.x s.y s.size) c.loop-k.k (s.size * s.size) c.loop-k.invariant
+    (omega (arith, plane_fits (cell_in _ _ _ _ _ c.requires.answered) c.loop-k.k c.loop-k-test.true))
+    (c.copy_plane.ensures ∙ plane_is s.planes.now p c.loop-k.k)
 
 pub returns : goal.returns
-returns c = let e : c.loop-k.k ≡ 3 = omega arith in rw e at c.loop-k.invariant.1
+returns c = let e : c.loop-k.k ≡ 3 = omega arith in rw e at c.loop-k.invariant

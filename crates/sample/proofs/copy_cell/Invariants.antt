@@ -1,12 +1,9 @@
--- `sample::copy_cell` meets its contract. The loop's invariant: the cell's planes passed stand at the front. What falls: the planes left.
-use Prim.Native.Nat.{◌-◌, ◌*◌, ◌≤◌}
+-- The planes passed stand at the front.
+use Prim.Native.Nat.{◌*◌}
 use Rattle.lists.specs.Front.{AtFront}
 use Rattle.lists.specs.Tab.{grid}
 use Rattle.sample.proofs.Cells.{cell_plane}
 use Rattle.sample.proofs.copy_cell.Given as goal
 
 abbrev pub invariant-loop-k : goal.invariant-loop-k
-invariant-loop-k l = (l.k ≤ 3) × AtFront (grid l.k (l.size * l.size) (cell_plane l.b l.planes l.x l.y l.size)) l.initial.out l.out
-
-abbrev pub decreases-loop-k : goal.decreases-loop-k
-decreases-loop-k l = 3 - l.k
+invariant-loop-k l = AtFront (grid l.k (l.size * l.size) (cell_plane l.b l.planes l.x l.y l.size)) l.initial.out l.out

@@ -1,10 +1,7 @@
-use Prim.Native.Nat.{◌+◌, ◌≤◌}
-use mathlib.Core.Path.{◌≡◌, ap}
+use mathlib.Core.Path.{ap}
 use native.Mathlib.Omega.{arith}
 use lib.ListN.{length}
-use Rattle.text.specs.Text.{decimal}
 use Rattle.text.proofs.Decimal.{decimal_one, decimal_most, length_more}
-use borrow.Author.Rules.{rules}
 use Rattle.text.proofs.digits.Goals as goal
 
 pub overflow_add-count : goal.overflow_add-count

@@ -1,11 +1,8 @@
 -- `text::digits` meets its contract. The invariant: the count and the digits of the rest are one more than the number has. The rest falls.
 use Prim.Native.Nat.{◌+◌, ◌≤◌}
-use mathlib.Core.Path.{◌≡◌, ap}
-use native.Mathlib.Omega.{arith}
+use mathlib.Core.Path.{◌≡◌}
 use lib.ListN.{length}
 use Rattle.text.specs.Text.{decimal}
-use Rattle.text.proofs.Decimal.{decimal_one, decimal_most, length_more}
-use borrow.Author.Rules.{rules}
 use Rattle.text.proofs.digits.Given as goal
 
 abbrev pub invariant-loop-rest : goal.invariant-loop-rest

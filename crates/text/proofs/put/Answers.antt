@@ -1,6 +1,5 @@
 -- `text::put` meets its contract.
 use Rattle.text.proofs.Writing.{puts_byte}
-use borrow.Author.Rules.{rules}
 use Rattle.text.proofs.put.Goals as goal
 
 pub returns : goal.returns

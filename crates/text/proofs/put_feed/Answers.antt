@@ -1,5 +1,4 @@
 -- `text::put_feed` meets its contract.
-use borrow.Author.Rules.{rules}
 use Rattle.text.proofs.put_feed.Goals as goal
 
 pub returns : goal.returns

@@ -1,7 +1,6 @@
 -- `text::put_next` meets its contract: the space, then the number.
 use native.Mathlib.Omega.{arith}
 use Rattle.text.proofs.Writing.{puts_join}
-use borrow.Author.Rules.{rules}
 use Rattle.text.proofs.put_next.Goals as goal
 
 pub returns : goal.returns

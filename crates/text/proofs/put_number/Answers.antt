@@ -1,10 +1,7 @@
-use Prim.Native.Nat.{ℕ, ◌+◌, ◌≤◌}
+use Prim.Native.Nat.{◌+◌}
 use mathlib.Core.Path.{◌≡◌, ap}
-use mathlib.Core.List.{List}
 use native.Mathlib.Omega.{arith}
 use lib.ListN.{length}
-use Rattle.text.specs.Text.{decimal}
-use Rattle.text.specs.Inner.{Puts}
 use Rattle.text.proofs.Decimal.{decimal_one, decimal_more, length_more}
 use Rattle.text.proofs.Writing.{puts_byte, puts_last}
 use borrow.Author.Rules.{rules}

@@ -1,15 +1,11 @@
 -- `text::put_number` meets its contract. The invariant: the digits of the rest end at k, and once they are written, so is the number.
 -- The rest falls.
 use Prim.Native.Nat.{ℕ, ◌+◌, ◌≤◌}
-use mathlib.Core.Path.{◌≡◌, ap}
+use mathlib.Core.Path.{◌≡◌}
 use mathlib.Core.List.{List}
-use native.Mathlib.Omega.{arith}
 use lib.ListN.{length}
 use Rattle.text.specs.Text.{decimal}
 use Rattle.text.specs.Inner.{Puts}
-use Rattle.text.proofs.Decimal.{decimal_one, decimal_more, length_more}
-use Rattle.text.proofs.Writing.{puts_byte, puts_last}
-use borrow.Author.Rules.{rules}
 use Rattle.text.proofs.put_number.Given as goal
 
 abbrev pub invariant-loop-rest : goal.invariant-loop-rest

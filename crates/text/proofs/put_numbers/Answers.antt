@@ -1,6 +1,6 @@
-use Rattle.std.proofs.Common.{◌≡◌, [], ◌∷◌, ◌++◌, get_or, drop, arith, rules}
+use Rattle.std.proofs.Common.{◌≡◌, [], ◌∷◌, get_or, arith, rules}
 use lib.ListN.{drop_of_length-le}
-use Rattle.text.specs.Text.{decimal, following}
+use Rattle.text.specs.Text.{decimal}
 use Rattle.text.proofs.Decimal.{line_next, line_first}
 use Rattle.text.proofs.Writing.{partly_more, partly_all, puts_join}
 use Rattle.text.proofs.put_numbers.Goals as goal
