@@ -1,6 +1,6 @@
 -- The score lists of both axes in one slice, each of which can be read, and the numbers of a reading. Assumes nothing.
 use Prim.Native.Nat.{ℕ, ◌+◌, ◌-◌, ◌≤◌}
-use mathlib.Core.Path.{◌≡◌, sym, ap, ◌∙◌}
+use mathlib.Core.Path.{◌≡◌, sym, ◌∙◌}
 use mathlib.Core.Bool.{Bool}
 use mathlib.Core.List.{List, ◌++◌, append_assoc}
 use native.Mathlib.Omega.{arith}
@@ -61,12 +61,6 @@ module _ (E : ℕ → ℕ → Bool) (b : Bounds) {before after : List ℕ} (x : 
     down_part =
         let k : n + m - n ≡ m = omega arith in
         rw (k, is, drop_at (column_scores E b) _ n (across_length ∙ sym across)) (take_at (row_scores E b) _ m (down_length ∙ sym down))
-
-    pub across_in : length (take n after) ≡ n
-    across_in = ap length across_part ∙ across_length ∙ sym across
-
-    pub down_in : length (take (n + m - n) (drop n after)) ≡ m
-    down_in = ap length down_part ∙ down_length ∙ sym down
 
   -- both can be read
   module _ {edges : List ℕ} {stride : ℕ} (s : Scorable edges stride b) where

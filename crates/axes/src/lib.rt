@@ -11,6 +11,7 @@ ghost use Rattle.strips.specs.Inner.{place_count, Scorable};
 ghost use Rattle.axes.specs.Inner.{both_counts, RoomFor, ReadsAxes};
 
 use board::Bounds;
+use lines::Scores;
 use reading::{Gap, Reading};
 
 // What the columns and the rows read as.
@@ -47,7 +48,14 @@ pub fn read_axes(
     score_all(edges, stride, b, turned, scores);
     let across = strips::place_count(b.c_1, b.c_2);
     let end = across + strips::place_count(b.r_1, b.r_2);
-    let columns = reading::quarters_of(&scores[..across], words);
-    let rows = reading::quarters_of(&scores[across..end], words);
+    let both = &scores[..];
+    let across_scores = Scores {
+        values: &both[..across],
+    };
+    let down_scores = Scores {
+        values: &both[across..end],
+    };
+    let columns = reading::quarters_of(&across_scores, words);
+    let rows = reading::quarters_of(&down_scores, words);
     Readings { columns, rows }
 }

@@ -4,6 +4,7 @@
 
 ghost use Rattle.std.specs.Prelude.{◌≡◌, ◌||◌, ◌+◌, ◌≤◌, ◌<◌, min, max, eqb, length};
 ghost use Rattle.lists.specs.Front.{AtFront};
+ghost use Rattle.rank.specs.Rank as Rank;
 ghost use Rattle.lines.specs.Lines.{largest, smoothed, smooth, line_threshold, entries_before, entries_behind, stands_out};
 ghost use Rattle.lines.specs.Lines.{is_line, places_of, lines_of, wide_gaps, chosen_gap};
 ghost use Rattle.lines.specs.Inner.{InLimits, narrow_at, Remains};
@@ -14,6 +15,20 @@ use std::ops::Range;
 // No score is above this, and no list longer.
 const MOST: u32 = 4096;
 
+// Scores, the places of lines or their gaps: none is above 4,096.
+#[derive(Clone, Copy)]
+pub struct Small<'a> {
+    pub values: &'a [u32],
+    pub ghost small: { largest values.now ≤ 4096 },
+}
+
+// A list of scores within the limits.
+#[derive(Clone, Copy)]
+pub struct Scores<'a> {
+    pub values: &'a [u32],
+    pub ghost limits: { InLimits values.now },
+}
+
 pub fn largest_of(s: &[u32]) -> u32
     ensures { result ≡ largest s.now }
 {
@@ -22,6 +37,17 @@ pub fn largest_of(s: &[u32]) -> u32
         most = most.max(*x);
     }
     most
+}
+
+impl Small<'_> {
+    // Entry j of them sorted rising; 0 where there is none.
+    #[tactic(auto, using(crate::proofs::Entries::exact, rank::proofs::Entry::entry_or))]
+    fn entry(&self, j: usize) -> u32
+        requires { length self.now.values.now ≤ 4096 }
+        ensures { result ≡ Rank.entry Rank.self 0 self.now.values.now j }
+    {
+        rank::entry_of(self.values, j, MOST).unwrap_or(0)
+    }
 }
 
 // ---- smoothing
@@ -42,48 +68,44 @@ fn smaller_score(a: u32, b: u32) -> u32
     a.min(b)
 }
 
-fn largest_of_four(s: &[u32]) -> u32
-    requires { (length s.now ≡ 4) × (largest s.now ≤ 4096) }
-    ensures { result ≡ largest s.now }
-{
-    larger_score(s[0], larger_score(s[1], larger_score(s[2], s[3])))
-}
-
-// A place with four neighbours on each side.
-#[tactic(auto, using(crate::proofs::Windows::largest_part, crate::proofs::Windows::largest_at))]
-fn smooth_at(s: &[u32], i: usize) -> u32
-    requires { (4 ≤ i) × (i + 4 < length s.now) × (largest s.now ≤ 4096) }
-    ensures { result ≡ smoothed s.now i }
-{
-    let before = largest_of_four(&s[i - 4..i]);
-    let behind = largest_of_four(&s[i + 1..i + 5]);
-    larger_score(s[i], smaller_score(before, behind))
-}
-
-// The first and last four are as in s; those between have four neighbours on each side.
-#[tactic(auto, using(crate::proofs::Smoothing::smooth_begun))]
-pub fn smooth_into(s: &[u32], t: &mut [u32])
-    requires { (4 ≤ length s.now) × (largest s.now ≤ 4096) × (length s.now ≤ length t.old) }
-    ensures { AtFront (smooth s.now) t.old t.new }
-{
-    let n = s.len();
-    lists::copy_front(s, n, t);
-    for i in 4..n - 4 {
-        t[i] = smooth_at(s, i);
+impl Small<'_> {
+    fn largest_of_four(&self) -> u32
+        requires { length self.now.values.now ≡ 4 }
+        ensures { result ≡ largest self.now.values.now }
+    {
+        let s = self.values;
+        larger_score(s[0], larger_score(s[1], larger_score(s[2], s[3])))
     }
-}
 
-// ---- the threshold
+    // A place with four neighbours on each side.
+    #[tactic(auto, using(crate::proofs::Windows::largest_part, crate::proofs::Windows::largest_at))]
+    fn smooth_at(&self, i: usize) -> u32
+        requires { (4 ≤ i) × (i + 4 < length self.now.values.now) }
+        ensures { result ≡ smoothed self.now.values.now i }
+    {
+        let s = self.values;
+        let before = Small {
+            values: &s[i - 4..i],
+        };
+        let behind = Small {
+            values: &s[i + 1..i + 5],
+        };
+        let near = smaller_score(before.largest_of_four(), behind.largest_of_four());
+        larger_score(s[i], near)
+    }
 
-#[tactic(auto, using(crate::proofs::Entries::exact), unfolding(crate::specs::Lines::line_threshold))]
-pub fn line_threshold(s: &[u32]) -> f32
-    requires { InLimits s.now }
-    ensures { result ≡ line_threshold s.now }
-{
-    let j = binary32::trunc(0.85 * s.len() as f32) as usize;
-    let high = rank::entry_of(s, j, MOST);
-    let last = rank::entry_of(s, s.len() - 1, MOST);
-    (high as f32 + last as f32 * 0.75) / 2.0
+    // The first and last four are as they were; those between have four neighbours on each side.
+    #[tactic(auto, using(crate::proofs::Smoothing::smooth_begun))]
+    pub fn smooth_into(&self, t: &mut [u32])
+        requires { (4 ≤ length self.now.values.now) × (length self.now.values.now ≤ length t.old) }
+        ensures { AtFront (smooth self.now.values.now) t.old t.new }
+    {
+        let n = self.values.len();
+        lists::copy_front(self.values, n, t);
+        for i in 4..n - 4 {
+            t[i] = self.smooth_at(i);
+        }
+    }
 }
 
 // ---- the line test
@@ -127,14 +149,18 @@ fn stands_out(v: u32, a: &[u32], b: &[u32]) -> bool
         )
 }
 
-// A list of scores within the limits.
-#[derive(Clone, Copy)]
-struct Scores<'a> {
-    values: &'a [u32],
-    ghost limits: { InLimits values.now },
-}
+impl<'a> Scores<'a> {
+    #[tactic(auto, using(crate::proofs::Entries::exact), unfolding(crate::specs::Lines::line_threshold))]
+    pub fn line_threshold(&self) -> f32
+        ensures { result ≡ line_threshold self.now.values.now }
+    {
+        let s = self.small();
+        let n = s.values.len();
+        let high = s.entry(binary32::trunc(0.85 * n as f32) as usize);
+        let last = s.entry(n - 1);
+        (high as f32 + last as f32 * 0.75) / 2.0
+    }
 
-impl Scores<'_> {
     // Few places reach the threshold, so it is tested first.
     #[tactic(auto, using(crate::proofs::Entries::exact), unfolding(crate::specs::Lines::is_line))]
     fn is_line(&self, th: f32, i: usize) -> bool
@@ -161,20 +187,28 @@ impl Scores<'_> {
         }
         n
     }
-}
 
-// The lines of s, and how many; t is scratch.
-#[tactic(auto, using(crate::proofs::Smoothing::smooth_scores), unfolding(crate::specs::Lines::lines_of))]
-pub fn find_lines(s: &[u32], t: &mut [u32], lines: &mut [u32]) -> usize
-    requires { InLimits s.now × (length s.now ≤ length t.old) × (length s.now ≤ length lines.old) }
-    ensures counted { result ≡ length (lines_of s.now) }
-    ensures front { AtFront (lines_of s.now) lines.old lines.new }
-{
-    smooth_into(s, t);
-    let smoothed = Scores {
-        values: &t[..s.len()],
-    };
-    smoothed.collect_lines(line_threshold(s), lines)
+    fn small(&self) -> Small<'a>
+        ensures { result.values.now ≡ self.now.values.now }
+    {
+        Small {
+            values: self.values,
+        }
+    }
+
+    // Their lines, and how many; t is scratch.
+    #[tactic(auto, using(crate::proofs::Smoothing::smooth_scores), unfolding(crate::specs::Lines::lines_of))]
+    pub fn find_lines(&self, t: &mut [u32], lines: &mut [u32]) -> usize
+        requires { (length self.now.values.now ≤ length t.old) × (length self.now.values.now ≤ length lines.old) }
+        ensures counted { result ≡ length (lines_of self.now.values.now) }
+        ensures front { AtFront (lines_of self.now.values.now) lines.old lines.new }
+    {
+        self.small().smooth_into(t);
+        let smoothed = Scores {
+            values: &t[..self.values.len()],
+        };
+        smoothed.collect_lines(self.line_threshold(), lines)
+    }
 }
 
 // ---- gaps and their estimate
@@ -197,35 +231,44 @@ pub fn wide_gaps(lines: &[u32], out: &mut [u32]) -> usize
     n
 }
 
-// Of the gaps d the one that is e.
-#[tactic(auto, using(crate::proofs::Entries::all_counted))]
-pub fn chosen_gap(d: &[u32]) -> u32
-    requires { (length d.now ≤ 4096) × (largest d.now ≤ 4096) }
-    ensures { result ≡ chosen_gap d.now }
-{
-    let j = binary32::trunc(d.len() as f32 * 0.4) as usize;
-    rank::entry_of(d, j, MOST)
+impl Small<'_> {
+    // Of gaps the one that is e.
+    #[tactic(auto, using(crate::proofs::Entries::exact))]
+    pub fn chosen_gap(&self) -> u32
+        requires { length self.now.values.now ≤ 4096 }
+        ensures { result ≡ chosen_gap self.now.values.now }
+    {
+        let d = self.values;
+        self.entry(binary32::trunc(d.len() as f32 * 0.4) as usize)
+    }
 }
 
 // ---- the two drops
 
-// Whether there is a gap from entry k to the next, and it is narrow.
-#[tactic(auto, using(crate::proofs::Entries::exact), unfolding(crate::specs::Lines::narrow_gap))]
-fn narrow_after(lines: &[u32], k: usize, e: u32) -> bool
-    requires { (k ≤ length lines.now) × (largest lines.now ≤ 4096) × (e ≤ 4096) }
-    ensures { result ≡ narrow_at e lines.now k }
-{
-    k + 1 < lines.len() && lines[k + 1].saturating_sub(lines[k]) as f32 <= e as f32 * 0.8
-}
+impl Small<'_> {
+    // Of lines: whether there is a gap from entry k to the next, and it is narrow.
+    #[tactic(auto, using(crate::proofs::Entries::exact), unfolding(crate::specs::Lines::narrow_gap))]
+    fn narrow_after(&self, k: usize, e: u32) -> bool
+        requires { (k ≤ length self.now.values.now) × (e ≤ 4096) }
+        ensures { result ≡ narrow_at e self.now.values.now k }
+    {
+        let lines = self.values;
+        k + 1 < lines.len() && lines[k + 1].saturating_sub(lines[k]) as f32 <= e as f32 * 0.8
+    }
 
-// Where the lines stand that remain. The first drop tests the first two, the last drop the last two of what that leaves.
-#[tactic(auto, using(crate::proofs::Drops::both))]
-pub fn kept_range(lines: &[u32], e: u32) -> Range<usize>
-    requires { (largest lines.now ≤ 4096) × (e ≤ 4096) }
-    ensures { Remains e lines.now result.start result.end }
-{
-    let start = usize::from(narrow_after(lines, 0, e));
-    let rest = &lines[start..];
-    let dropped = usize::from(narrow_after(rest, rest.len().saturating_sub(2), e));
-    start..lines.len() - dropped
+    // Where the lines stand that remain. The first drop tests the first two, the last drop the last two of what that leaves.
+    #[tactic(auto, using(crate::proofs::Drops::both, crate::proofs::Windows::largest_part))]
+    pub fn kept_range(&self, e: u32) -> Range<usize>
+        requires { e ≤ 4096 }
+        ensures { Remains e self.now.values.now result.start result.end }
+    {
+        let lines = self.values;
+        let start = usize::from(self.narrow_after(0, e));
+        let rest = Small {
+            values: &lines[start..],
+        };
+        let before_last = rest.values.len().saturating_sub(2);
+        let dropped = usize::from(rest.narrow_after(before_last, e));
+        start..lines.len() - dropped
+    }
 }

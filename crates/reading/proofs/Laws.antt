@@ -17,11 +17,9 @@ use Rattle.lines.proofs.Rising.{Rising, rising_at, rising_length}
 use Rattle.votes.specs.Votes.{Wins, winner}
 use Rattle.votes.proofs.Laws.{winner_wins}
 use Rattle.std.specs.Prelude.{Result, Ok, Err}
-use Rattle.reading.specs.declared.Gap.{Gap}
 use Rattle.reading.specs.declared.Reading.{Reading}
-use Rattle.reading.specs.declared.Remaining.{Remaining}
-use Rattle.reading.specs.Reading.{remaining, accepted, gap_answer, quarters_of}
-use Rattle.reading.specs.Inner.{Readable, Standing, RemainingGives, Pitched}
+use Rattle.reading.specs.Reading.{remaining, accepted, quarters_of}
+use Rattle.reading.specs.Inner.{Readable, Standing, Pitched}
 use Rattle.reading.proofs.Answers.{gap_fits, read_on}
 
 low_at : (n : ℕ) (l : List ℕ) → n ≤ 4096 → Rising 0 n l → (k : ℕ) → get_or l k 0 ≤ 4095

@@ -5,10 +5,10 @@
 
 ghost use Rattle.std.specs.Prelude.{◌≡◌, ℕ, ◌+◌, ◌-◌, ◌*◌, ◌≤◌, ◌<◌, length, get_or};
 ghost use Rattle.refusal.specs.Refusal.{number, answer_of, numbered};
-ghost use Rattle.lines.specs.Inner.{InLimits};
 ghost use Rattle.reading.specs.Reading.{pitch_of, count_of, accepted, quarters_of, line_answer, reading_of, line_of, LineGives};
 ghost use Rattle.reading.specs.Inner.{gap_number, Readable, RemainingGives};
 
+use lines::{Scores, Small};
 use refusal::Refusal;
 
 // What a list reads as: a pitch, in quarters or as a number, with an offset, a count and the votes.
@@ -108,20 +108,26 @@ fn count_of(lines: &[u32], quarter: usize) -> usize
 }
 
 // The lines that remain of s, in the array that is lent for them. The scratch serves the smoothed list, then the gaps.
-fn remaining_of(s: &[u32], scratch: &mut [u32], array: &mut [u32]) -> Result<Remaining, Gap>
-    requires { InLimits s.now × (length s.now ≤ length scratch.old) × (length s.now ≤ length array.old) }
-    ensures { RemainingGives s.now result array.new }
+fn remaining_of(s: &Scores, scratch: &mut [u32], array: &mut [u32]) -> Result<Remaining, Gap>
+    requires { (length s.now.values.now ≤ length scratch.old) × (length s.now.values.now ≤ length array.old) }
+    ensures { RemainingGives s.now.values.now result array.new }
 {
-    let n = lines::find_lines(s, scratch, array);
+    let n = s.find_lines(scratch, array);
     let m = lines::wide_gaps(&array[..n], scratch);
     if m == 0 {
         return Err(Gap::Missing);
     }
-    let e = lines::chosen_gap(&scratch[..m]);
+    let gaps = Small {
+        values: &scratch[..m],
+    };
+    let e = gaps.chosen_gap();
     if e >= WIDE {
         return Err(Gap::Wide);
     }
-    let kept = lines::kept_range(&array[..n], e);
+    let lines = Small {
+        values: &array[..n],
+    };
+    let kept = lines.kept_range(e);
     Ok(Remaining {
         from: kept.start,
         end: kept.end,
@@ -144,9 +150,9 @@ fn read_lines(lines: &[u32], e: u32, row: &mut [u32]) -> Reading<usize>
 }
 
 // The lines are kept in an array of their own; the scratch then serves the row of votes.
-pub fn quarters_of(s: &[u32], scratch: &mut [u32]) -> Result<Reading<usize>, Gap>
-    requires { InLimits s.now × (4 * length s.now ≤ length scratch.old) }
-    ensures { numbered gap_number result ≡ quarters_of s.now }
+pub fn quarters_of(s: &Scores, scratch: &mut [u32]) -> Result<Reading<usize>, Gap>
+    requires { 4 * length s.now.values.now ≤ length scratch.old }
+    ensures { numbered gap_number result ≡ quarters_of s.now.values.now }
 {
     let mut array = [0u32; LONGEST];
     let kept = remaining_of(s, scratch, &mut array)?;
@@ -179,8 +185,9 @@ pub fn get_line(list: &[u32], scratch: &mut [u32]) -> Result<Reading<f32>, Refus
 {
     let len = scratch.len();
     check(list, len)?;
+    let scores = Scores { values: list };
     let room = 4 * list.len();
-    let read = quarters_of(list, &mut scratch[..room])?;
+    let read = quarters_of(&scores, &mut scratch[..room])?;
     Ok(Reading {
         pitch: pitch_of(read.pitch),
         offset: read.offset,

@@ -3,7 +3,6 @@ use Prim.Native.Nat.{◌-◌}
 use native.Mathlib.Omega.{arith}
 use lib.ListN.{length}
 use Rattle.binary32.proofs.Values.{in_float_lem}
-use borrow.Author.Rules.{rules}
 use Rattle.reading.proofs.count_of.Goals as goal
 
 pub overflow_add-span : goal.overflow_add-span

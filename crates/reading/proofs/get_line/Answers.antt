@@ -1,4 +1,4 @@
-use Rattle.std.proofs.Common.{◌≡◌, ◌∙◌, ◌*◌, Err, Ok, length, refl, sym, ap, arith, rules}
+use Rattle.std.proofs.Common.{◌≡◌, ◌∙◌, Err, length, refl, sym, ap, rules}
 use lib.Seq.{drop_at, length-take-le}
 use Rattle.refusal.specs.Refusal.{number, numbered}
 use Rattle.refusal.proofs.Numbers.{number_some}

@@ -1,4 +1,3 @@
-use Rattle.std.proofs.Common.{rules}
 use Rattle.reading.proofs.Laws.{readable_low}
 use Rattle.reading.proofs.read_lines.Goals as goal
 
