@@ -35,5 +35,5 @@ abbrev pub Reached : ℕ → ℕ → ℕ → ℕ → List Float → Type 0
 Reached f m width at planes = (u : ℕ) → u < f → at + u * width + m * f ≤ length planes
 
 -- the blocks of m points stand in the lists, those of point l in list l
-pub record Gathered (f m width at : ℕ) (planes x : List Float) : Type 0 where
+pub record Gathered (f m width at : ℕ) (planes : List Float) (x : List (List Float)) : Type 0 where
   pub here : (u v l : ℕ) → u < f → v < f → l < m → list_of x l (u * f + v) ≡ get_or planes (at + u * width + l * f + v) nan

@@ -11,7 +11,7 @@ ghost use Rattle.lists.specs.Front.{AtFront};
 ghost use Rattle.lists.specs.Inner.{Placed};
 ghost use Rattle.select.specs.Inner.{list_count};
 ghost use Rattle.board.specs.Screen.{view, packed};
-ghost use Rattle.board.specs.Inner.{FactorIn, FitPlanes};
+ghost use Rattle.board.specs.Inner.{FitPlanes};
 ghost use Rattle.narrow.specs.Narrow as Spec;
 ghost use Rattle.narrow.specs.Narrow.{narrowed};
 ghost use Rattle.narrow.specs.Inner.{row_of, run, UnitPlanes, PointsIn, Reached, Gathered};
@@ -19,19 +19,28 @@ ghost use Rattle.narrow.specs.Inner.{row_of, run, UnitPlanes, PointsIn, Reached,
 use board::{Board, Factor};
 use select::LIST_COUNT;
 
-// Room for the largest blocks.
-const ROOM: usize = Board::MOST_FACTOR * Board::MOST_FACTOR * LIST_COUNT;
+// The number of values of the largest block.
+const ROOM: usize = Board::MOST_FACTOR * Board::MOST_FACTOR;
+
+// Room for such blocks, a list each.
+type Lists = [[f32; LIST_COUNT]; ROOM];
 
 // The blocks of m neighbouring points, the first value at `at`: a list each, and nothing is said of the lists beyond. The factor is a
 // constant, so that the compiler takes the values of neighbouring points apart several at a time.
-fn gather_by<const F: usize>(planes: &[f32], at: usize, width: usize, m: usize, x: &mut [f32; ROOM])
-    requires { FactorIn F × Reached F m width at planes.now × (m ≤ list_count) }
+fn gather_by<const F: usize>(
+    planes: &[f32],
+    at: usize,
+    width: usize,
+    m: usize,
+    x: &mut [[f32; LIST_COUNT]],
+)
+    requires { Reached F m width at planes.now × (m ≤ list_count) × (F * F ≤ length x.old) }
     ensures { Gathered F m width at planes.now x.new }
 {
     for u in 0..F {
         for l in 0..m {
             for v in 0..F {
-                x[(u * F + v) * LIST_COUNT + l] = planes[at + u * width + l * F + v];
+                x[u * F + v][l] = planes[at + u * width + l * F + v];
             }
         }
     }
@@ -51,7 +60,7 @@ impl Blocks<'_> {
     ghost use Rattle.narrow.specs.Blocks.{points};
 
     // The blocks of m neighbouring points, the first value at `at`, by the factor at hand.
-    fn gather(&self, at: usize, m: usize, x: &mut [f32; ROOM])
+    fn gather(&self, at: usize, m: usize, x: &mut Lists)
         requires { Reached self.now.factor.value m self.now.width at self.now.planes.now × (m ≤ list_count) }
         ensures { Gathered self.now.factor.value m self.now.width at self.now.planes.now x.new }
     {
@@ -65,7 +74,7 @@ impl Blocks<'_> {
 
     // The m points from j on of row i of narrowed plane k.
     #[tactic(auto, using(crate::proofs::Block::reached, crate::proofs::Block::medians_are))]
-    fn group(&self, k: usize, i: usize, j: usize, m: usize, x: &mut [f32; ROOM], out: &mut [f32])
+    fn group(&self, k: usize, i: usize, j: usize, m: usize, x: &mut Lists, out: &mut [f32])
         requires points_in { PointsIn (points self.now) k i j m }
         requires room { (points self.now).width ≤ length out.old }
         ensures { Placed (run (points self.now) k i j m) j out.old out.new }
@@ -77,7 +86,7 @@ impl Blocks<'_> {
     }
 
     // Row i of narrowed plane k, so many points at once as there are lists.
-    fn row(&self, k: usize, i: usize, x: &mut [f32; ROOM], out: &mut [f32])
+    fn row(&self, k: usize, i: usize, x: &mut Lists, out: &mut [f32])
         requires row_in { (k < 3) × (i < (points self.now).height) }
         requires room { (points self.now).width ≤ length out.old }
         ensures { AtFront (row_of (points self.now) k i) out.old out.new }
@@ -102,7 +111,7 @@ fn narrow_planes(factor: Factor, height: usize, width: usize, planes: &mut [f32]
     let rows = height / f;
     let columns = width / f;
     let band = f * width;
-    let mut x = [0.0f32; ROOM];
+    let mut x: Lists = [[0.0; LIST_COUNT]; ROOM];
     for r in 0..3 * rows {
         let blocks = Blocks {
             factor,

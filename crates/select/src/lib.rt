@@ -1,9 +1,9 @@
-// The medians of several lists of units side by side, by comparisons alone: a pass drops a smallest and a largest value of a window,
-// which is wide enough that neither can be the median, and takes in one value more. No step depends on the values, so the compiler
-// works on all lists at once. Definitions: specs/Inner. The law: proofs/Passes.
+// The medians of several lists of units side by side, value k of list l at x[k][l], by comparisons alone: a pass drops a smallest and a
+// largest value of a window, which is wide enough that neither can be the median, and takes in one value more. No step depends on the
+// values, so that a compiler can work on all lists at once. Definitions: specs/Inner. The law: proofs/Passes.
 #![tactic(auto)]
 
-ghost use Rattle.std.specs.Prelude.{◌≡◌, ℕ, ◌+◌, ◌*◌, ◌<◌, ◌≤◌, length};
+ghost use Rattle.std.specs.Prelude.{ℕ, ◌+◌, ◌<◌, ◌≤◌, length};
 ghost use Rattle.lists.specs.Inner.{Placed};
 ghost use Rattle.lists.specs.Tab.{tab};
 ghost use Rattle.select.specs.Inner.{list_count, list_of, UnitsIn, median_of, chosen, Started, Sifted, DroppedEach, Selected};
@@ -13,37 +13,45 @@ ghost use Rattle.select.specs.Inner.{list_count, list_of, UnitsIn, median_of, ch
 pub const LIST_COUNT: usize = 16;
 
 // The smaller and the larger of values s and s + 1.
-fn start(x: &[f32], s: usize, lo: &mut [f32], hi: &mut [f32])
-    requires { ((s + 2) * list_count ≤ length x.now) × (length lo.old ≡ list_count) × (length hi.old ≡ list_count) }
+#[tactic(auto, using(lists::proofs::Front::front_none, lists::proofs::Front::front_here))]
+fn start(x: &[[f32; LIST_COUNT]], s: usize, lo: &mut [f32; LIST_COUNT], hi: &mut [f32; LIST_COUNT])
+    requires { s + 1 < length x.now }
     ensures { Started s x.now lo.new hi.new }
 {
     for l in 0..LIST_COUNT {
-        let a = x[s * LIST_COUNT + l];
-        let b = x[(s + 1) * LIST_COUNT + l];
+        let a = x[s][l];
+        let b = x[s + 1][l];
         lo[l] = binary32::lesser(a, b);
         hi[l] = binary32::larger(a, b);
     }
 }
 
 // Value k is compared with the smallest and the largest so far, and the one between them is left in its place.
-fn sift(x: &mut [f32], k: usize, lo: &mut [f32], hi: &mut [f32])
-    requires { ((k + 1) * list_count ≤ length x.old) × (length lo.old ≡ list_count) × (length hi.old ≡ list_count) }
+#[tactic(auto, using(lists::proofs::Front::front_none))]
+fn sift(
+    x: &mut [[f32; LIST_COUNT]],
+    k: usize,
+    lo: &mut [f32; LIST_COUNT],
+    hi: &mut [f32; LIST_COUNT],
+)
+    requires { k < length x.old }
     ensures { Sifted k x.old lo.old hi.old x.new lo.new hi.new }
 {
+    let row = &mut x[k];
     for l in 0..LIST_COUNT {
         let a = lo[l];
         let b = hi[l];
-        let y = x[k * LIST_COUNT + l];
+        let y = row[l];
         let t = binary32::larger(a, y);
         lo[l] = binary32::lesser(a, y);
         hi[l] = binary32::larger(b, t);
-        x[k * LIST_COUNT + l] = binary32::lesser(b, t);
+        row[l] = binary32::lesser(b, t);
     }
 }
 
 // The window from s up to e loses a smallest and a largest value: the others stand from s + 2 on.
-fn pass(x: &mut [f32], s: usize, e: usize)
-    requires { (s + 2 ≤ e) × (e * list_count ≤ length x.old) }
+fn pass(x: &mut [[f32; LIST_COUNT]], s: usize, e: usize)
+    requires { (s + 2 ≤ e) × (e ≤ length x.old) }
     ensures { DroppedEach s e x.old x.new }
 {
     let mut lo: [f32; LIST_COUNT] = [0.0; LIST_COUNT];
@@ -55,8 +63,8 @@ fn pass(x: &mut [f32], s: usize, e: usize)
 }
 
 // Leaves one value or two at the end of the first n of each list; the larger is the middle one of the n, if they are units.
-fn select(n: usize, x: &mut [f32])
-    requires { (0 < n) × (n * list_count ≤ length x.old) }
+fn select(n: usize, x: &mut [[f32; LIST_COUNT]])
+    requires { (0 < n) × (n ≤ length x.old) }
     ensures { Selected n x.old x.new }
 {
     for t in 0..(n - 1) / 2 {
@@ -65,21 +73,21 @@ fn select(n: usize, x: &mut [f32])
 }
 
 // What is left of n values in the first m lists, to `out` from j on: the larger where two are left.
-fn put(n: usize, x: &[f32], m: usize, out: &mut [f32], j: usize)
-    requires { (0 < n) × (n * list_count ≤ length x.now) × (m ≤ list_count) × (j + m ≤ length out.old) }
+fn put(n: usize, x: &[[f32; LIST_COUNT]], m: usize, out: &mut [f32], j: usize)
+    requires { (0 < n) × (n ≤ length x.now) × (m ≤ list_count) × (j + m ≤ length out.old) }
     ensures { Placed (tab m (λ l. chosen n (list_of x.now l))) j out.old out.new }
 {
     let p = 2 * ((n - 1) / 2);
     for l in 0..m {
-        let a = x[p * LIST_COUNT + l];
-        let b = x[(n - 1) * LIST_COUNT + l];
+        let a = x[p][l];
+        let b = x[n - 1][l];
         out[j + l] = binary32::larger(a, b);
     }
 }
 
 // The medians of the first m lists, n units each, to `out` from j on. The lists are free afterwards.
-pub fn medians(n: usize, x: &mut [f32], m: usize, out: &mut [f32], j: usize)
-    requires room { (0 < n) × (n * list_count ≤ length x.old) × (m ≤ list_count) × (j + m ≤ length out.old) }
+pub fn medians(n: usize, x: &mut [[f32; LIST_COUNT]], m: usize, out: &mut [f32], j: usize)
+    requires room { (0 < n) × (n ≤ length x.old) × (m ≤ list_count) × (j + m ≤ length out.old) }
     requires units { (l : ℕ) → l < m → UnitsIn 0 n (list_of x.old l) }
     ensures { Placed (tab m (λ l. median_of n (list_of x.old l))) j out.old out.new }
 {

@@ -1,29 +1,16 @@
-use Prim.Native.Nat.{ℕ, ◌-◌, ◌/◌, ◌≤◌, ◌<◌}
-use mathlib.Core.Path.{◌≡◌, refl}
-use native.Mathlib.Omega.{arith}
-use lib.ListN.{length}
-use Rattle.select.specs.Inner.{list_count, list_of, UnitsIn}
-use Rattle.select.proofs.Passes.{Left, left_none, left_more, left_all}
-use borrow.Author.Rules.{rules}
+use Rattle.std.proofs.Common.{◌≡◌, ◌-◌, ◌/◌, arith, rules}
+use Rattle.select.proofs.Passes.{left_none, left_more, left_all}
 use Rattle.select.proofs.select.Goals as goal
 
 pub loop-t-init : goal.loop-t-init
-loop-t-init c = (omega arith, refl, refl, λ l h u. left_none u)
+loop-t-init c = search (rules, left_none)
 
 pub loop-t-preserved : goal.loop-t-preserved
-loop-t-preserved c =
-    let at = c in
-    let t : at.loop-t.t < (at.args.n - 1) / 2 = omega arith in (
-      omega arith,
-      refl,
-      search rules,
-      λ l h u.
-          let L = at.loop-t.invariant.3 l h u in
-          left_more t L (c.pass.ensures l h (λ k a b. L.units k a (omega arith))),
-    )
+loop-t-preserved c = λ l h u.
+    let L = c.loop-t.invariant l h u in
+    left_more (omega arith) L (c.pass.ensures l h (λ k a b. L.units k a (omega arith)))
 
 pub returns : goal.returns
-returns c =
-    let at = c in
-    let e : at.loop-t.t ≡ (at.args.n - 1) / 2 = omega arith in
-    λ l h u. left_all at.requires.0 u (rw e at (at.loop-t.invariant.3 l h u))
+returns c = λ l h u.
+    let all : c.loop-t.t ≡ (c.args.n - 1) / 2 = omega arith in
+    left_all c.requires.0 u (rw all at (c.loop-t.invariant l h u))
