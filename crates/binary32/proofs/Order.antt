@@ -1,10 +1,10 @@
 -- The order of the binary32 values that are not negative is the order of their bits. Assumes nothing.
-use Rattle.std.proofs.Common.{◌≡◌, ℕ, zero, suc, ◌+◌, ◌*◌, ◌/◌, ◌%◌, ◌^◌, ◌<◌, ◌≤◌, Bool, true, false, cond, ◌&&◌, ◌||◌, T, eqb, ltb, leb, ℤ, sym, refl, ⊎_elim, true≢false, lt_of_lt_of_le, le_of_lt, mul-le-mul_right, mod-eq_of_lt, eq-or-lt_of_le, mul-le-mul_left, mul-lt-mul_of_pos_right, pow-suc, lt_of_not-le, mul-one, not-le_of_lt, le_of_mul-le-mul_right, arith, eqb→eq, pow_pos, pow_mono, ltb-true, ne_eqb, le-leb, leb-false, leb-true}
+use Rattle.std.proofs.Common.{◌≡◌, ℕ, zero, suc, ◌+◌, ◌*◌, ◌/◌, ◌%◌, ◌^◌, ◌<◌, ◌≤◌, Bool, true, false, cond, ◌&&◌, ◌||◌, T, eqb, ltb, leb, ℤ, sym, refl, ⊎_elim, true≢false, lt_of_lt_of_le, le_of_lt, mul-le-mul_right, mod-eq_of_lt, eq-or-lt_of_le, mul-le-mul_left, mul-lt-mul_of_pos_right, subst, pow-suc, lt_of_not-le, mul-one, not-le_of_lt, le_of_mul-le-mul_right, arith, eqb→eq, pow_pos, pow_mono, ltb-true, ne_eqb, le-leb, leb-false, leb-true}
 use borrow.Author.Tests.{lt-leb}
-use lib.Ieee.{Float, nan, inf, fin, binary32, up, down, of_fields, of_bits, to_bits, fits, le}
+use lib.Ieee.{Float, nan, inf, fin, binary32, up, down, of_fields, of_bits, to_bits, fits, le, round, units, odd}
 use lib.Ieee.Bits.{of_bits-to_bits}
 use Rattle.binary32.proofs.Values.{magnitude_lt}
-use lib.Ieee.Fits.{down_pos, and_l}
+use lib.Ieee.Fits.{down_pos, and_l, round_is}
 use lib.Ieee.Exact.{HasValue, odd_sign}
 use lib.Ieee.Order.{le_of_values, transfer}
 
@@ -105,6 +105,23 @@ NonNegative (inf true) = ⊥
 NonNegative (inf false) = Unit
 NonNegative (fin true m e) = ⊥
 NonNegative (fin false m e) = Unit
+
+-- a rounded value that is not negative has no sign
+odd_positive : (d q k l : ℕ) → NonNegative (odd d false q k l)
+unfolding odd
+odd_positive d zero k l = tt
+odd_positive d (suc q) k l = tt
+
+units_positive : (q k : ℕ) → NonNegative (units binary32 false q k)
+unfolding units
+units_positive q k = go (ltb (q * 2 ^ k) (2 ^ 277))
+  where
+    go : (t : Bool) → NonNegative (cond t (odd 25 false q k 149) (inf false))
+    go true = odd_positive 25 q k 149
+    go false = tt
+
+pub round_positive : (a b : ℕ) → NonNegative (round binary32 false a b)
+round_positive a b = subst NonNegative (sym (round_is binary32 false a b)) (units_positive _ _)
 
 no_value : (t s : Bool) (m : ℕ) (e : ℤ) → cond t (inf s) nan ≡ fin false m e → ⊥
 no_value true s m e h = let z : ◌≡◌ {A = ℕ} 0 1 = cc in omega arith

@@ -1,16 +1,13 @@
 -- Single values: what the tests in the code tell of them, and the magnitude from the bits. Assumes nothing.
-use Rattle.std.proofs.Common.{◌≡◌, ℕ, zero, suc, ◌+◌, ◌-◌, ◌*◌, ◌/◌, ◌%◌, ◌^◌, ◌<◌, ◌≤◌, Bool, true, false, cond, not, T, pos, refl, true≢false, mod-eq_of_lt, one-mul, le-div_iff_mul-le, arith, ltb-false, le-leb}
+use Rattle.std.proofs.Common.{◌≡◌, ℕ, zero, suc, ◌+◌, ◌-◌, ◌*◌, ◌/◌, ◌%◌, ◌^◌, ◌<◌, ◌≤◌, true, false, cond, not, T, pos, refl, true≢false, mod-eq_of_lt, one-mul, le-div_iff_mul-le, arith, ltb-false, le-leb}
 use mathlib.Core.Bool.{false≢true}
 use lib.Ieee.{Float, nan, inf, fin, binary32, lt, up, down, fits, is_nan, nan_bits, in_float, of_int, to_unsigned, of_bits, to_bits, top}
 use lib.Ieee.Fits.{down_pos}
 use lib.Ieee.Exact.{HasValue}
 use lib.Ieee.Back.{round_whole}
 use lib.Ieee.Bits.{of_bits-to_bits, to_bits-lt, nan_bits_is}
+use Rattle.std.proofs.lemmas.Float.{T_from_true}
 use Rattle.binary32.specs.Binary32.{magnitude, unit}
-
--- a test that was passed, as the kit's laws take it
-pub T_of : {b : Bool} → b ≡ true → T b
-T_of e = rw e tt
 
 pub nan_no_unit : (x : Float) → T (is_nan x) → unit x ≡ false
 unfolding is_nan to_bits unit
@@ -21,7 +18,7 @@ nan_no_unit (fin s m k) t = absurd t
 -- whole numbers up to 2 ^ 24 are values: what a cast to binary32 asks
 pub in_float_lem : {n : ℕ} → n ≤ 16777216 → T (in_float binary32 (pos n))
 unfolding in_float
-in_float_lem {n} h = T_of (le-leb n 16777216 h)
+in_float_lem {n} h = T_from_true _ (le-leb n 16777216 h)
 
 pub whole_value : (n : ℕ) → n ≤ 16777216 → HasValue (of_int binary32 (pos n)) false n 1
 unfolding of_int

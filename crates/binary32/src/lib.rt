@@ -2,7 +2,7 @@
 // Definitions: specs/Binary32. Laws for callers:
 // proofs/Values: what a test tells of a single value, whole numbers that are exact, truncation, the magnitude by its bits.
 // proofs/Numbers: sums and magnitudes of numbers are numbers.
-// proofs/Order: values that are not negative are ordered as their bits are.
+// proofs/Order: values that are not negative, what is rounded without a sign among them, are ordered as their bits are.
 // proofs/Plain: the same for a comparison with a value given by its bits.
 // proofs/Units: the smaller and the larger of two units by their bits.
 // proofs/Share: a share of m, cut to a whole number, is below m.

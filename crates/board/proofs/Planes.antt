@@ -1,7 +1,7 @@
 -- What the answer to planes shows: fit planes, and how fitness passes on. Assumes nothing.
 use Prim.Native.Nat.{ℕ, ◌*◌, ◌≤◌}
 use mathlib.Core.Path.{◌≡◌, refl}
-use mathlib.Core.Bool.{Bool, true, false, not, cond, ◌||◌, true≢false}
+use mathlib.Core.Bool.{Bool, true, false, not, cond, ◌||◌}
 use mathlib.Core.List.{List}
 use native.Mathlib.Omega.{arith}
 use borrow.Author.Tests.{ltb-false, le-ltb}
@@ -11,11 +11,8 @@ use lib.ListN.{length, take}
 use Rattle.board.specs.Board.{sides_outside}
 use Rattle.board.specs.Planes.{all_units, planes_answer}
 use Rattle.board.specs.Inner.{FitPlanes}
-use Rattle.board.proofs.Sides.{neither, passed, sides_in, sides_pass}
-
-true_of_not : (b : Bool) → not b ≡ false → b ≡ true
-true_of_not true e = refl
-true_of_not false e = absurd (true≢false e)
+use Rattle.std.proofs.lemmas.Bool.{not-false, or_parts}
+use Rattle.board.proofs.Sides.{passed, sides_in, sides_pass}
 
 -- an answer of 0: the planes are fit, and no other slice is short
 pub planes_fit : (least h w : ℕ) (planes : List Float) (short : Bool) → planes_answer least h w planes short ≡ 0
@@ -25,9 +22,9 @@ planes_fit least h w planes short e =
     let a = passed (sides_outside least h w) 0 _ e in
     let b = passed (ltb (length planes) (3 * (h * w)) || short) 2 _ a.1 in
     let c = passed (not (all_units (take (3 * (h * w)) planes))) 3 0 b.1 in
-    let n = neither (ltb (length planes) (3 * (h * w))) short b.0 in
+    let n = or_parts (ltb (length planes) (3 * (h * w))) short b.0 in
     let there = ltb-false (length planes) (3 * (h * w)) n.0 in
-    (record { sides = sides_in least h w a.0; there = there; units = true_of_not _ c.0 }, n.1)
+    (record { sides = sides_in least h w a.0; there = there; units = not-false _ c.0 }, n.1)
 
 pub fit_answer_lem : {least h w : ℕ} {planes : List Float} → FitPlanes least h w planes → planes_answer least h w planes false ≡ 0
 unfolding planes_answer

@@ -1,29 +1,14 @@
 -- What the tests of sides and lengths tell. Assumes nothing.
 use Prim.Native.Nat.{ℕ, ◌+◌, ◌*◌, ◌≤◌}
 use mathlib.Core.Path.{◌≡◌, refl}
-use mathlib.Core.Bool.{Bool, true, false, not, cond, ◌&&◌, ◌||◌, true≢false, false≢true}
+use mathlib.Core.Bool.{Bool, true, false, not, cond}
 use native.Mathlib.Nat.{mul-le-mul, mul-le-mul_right}
 use native.Mathlib.Omega.{arith}
 use borrow.Author.Tests.{leb-true, ltb-false, le-ltb}
 use lib.Dec.{leb, ltb}
+use Rattle.std.proofs.lemmas.Bool.{and_parts, or_parts}
 use Rattle.board.specs.Board.{least_plane_side, most_side, least_factor, most_factor, outside, sides_outside, factor_outside, has_channel}
 use Rattle.board.specs.Inner.{SidesIn, FactorIn}
-
-pub and_true : (p : Bool) → (p && true) ≡ p
-and_true true = refl
-and_true false = refl
-
-pub and_false : (p : Bool) → (p && false) ≡ false
-and_false true = refl
-and_false false = refl
-
-pub both : (p q : Bool) → (p && q) ≡ true → (p ≡ true) × (q ≡ true)
-both true q e = (refl, e)
-both false q e = absurd (false≢true e)
-
-pub neither : (p q : Bool) → (p || q) ≡ false → (p ≡ false) × (q ≡ false)
-neither true q e = absurd (true≢false e)
-neither false q e = (refl, e)
 
 -- a check that did not fail, in a chain of checks that answers 0
 pub passed : (bad : Bool) (n later : ℕ) → cond bad (n + 1) later ≡ 0 → (bad ≡ false) × (later ≡ 0)
@@ -34,9 +19,9 @@ passed false n later e = (refl, e)
 pub sides_in : (least h w : ℕ) → sides_outside least h w ≡ false → SidesIn least h w
 unfolding sides_outside outside
 sides_in least h w e =
-    let s = neither (outside least most_side h) (outside least most_side w) e in
-    let a = neither (ltb h least) (ltb most_side h) s.0 in
-    let b = neither (ltb w least) (ltb most_side w) s.1 in
+    let s = or_parts (outside least most_side h) (outside least most_side w) e in
+    let a = or_parts (ltb h least) (ltb most_side h) s.0 in
+    let b = or_parts (ltb w least) (ltb most_side w) s.1 in
     let high_h = ltb-false most_side h a.1 in
     let high_w = ltb-false most_side w b.1 in
     record {
@@ -56,7 +41,7 @@ sides_pass {least} {h} {w} s =
 pub factor_in : (f : ℕ) → factor_outside f ≡ false → FactorIn f
 unfolding outside
 factor_in f e =
-    let a = neither (ltb f least_factor) (ltb most_factor f) e in
+    let a = or_parts (ltb f least_factor) (ltb most_factor f) e in
     record { low = ltb-false f least_factor a.0; high = ltb-false most_factor f a.1 }
 
 -- a plane that stands among len values
@@ -67,8 +52,8 @@ pub record Stands (h w len k : ℕ) : Type 0 where
 pub stands : {h w len k : ℕ} → has_channel h w len k ≡ true → Stands h w len k
 unfolding has_channel
 stands {h} {w} {len} {k} e =
-    let a = both (leb k 2) _ e in
-    let b = both (not (sides_outside least_plane_side h w)) _ a.1 in
+    let a = and_parts (leb k 2) _ e in
+    let b = and_parts (not (sides_outside least_plane_side h w)) _ a.1 in
     let l = leb-true (3 * (h * w)) len b.1 in
     let m = mul-le-mul_right (h * w) (leb-true k 2 a.0) in
     record { one = omega arith; end = omega arith }

@@ -12,13 +12,13 @@ use lib.ListN.{length, get_or, take}
 use lib.Seq.{get_or-take, length-take-le}
 use Rattle.lists.specs.Count.{count}
 use Rattle.binary32.specs.Binary32.{unit}
-use Rattle.board.proofs.Sides.{both}
+use Rattle.std.proofs.lemmas.Bool.{and_parts}
 use Rattle.board.specs.Planes.{all_units}
 
 units_at : (l : List Float) (k : ℕ) → all_units l ≡ true → k < length l → unit (get_or l k nan) ≡ true
 units_at [] k e h = absurd (omega arith)
-units_at (x ∷ l) zero e h = (both (unit x) (all_units l) e).0
-units_at (x ∷ l) (suc k) e h = units_at l k (both (unit x) (all_units l) e).1 (omega arith)
+units_at (x ∷ l) zero e h = (and_parts (unit x) (all_units l) e).0
+units_at (x ∷ l) (suc k) e h = units_at l k (and_parts (unit x) (all_units l) e).1 (omega arith)
 
 pub units_all : (l : List Float) → ((k : ℕ) → k < length l → unit (get_or l k nan) ≡ true) → all_units l ≡ true
 units_all [] h = refl

@@ -12,7 +12,7 @@ use lib.Dec.{eqb, ltb}
 use lib.ListN.{length, take, drop}
 use lib.Seq.{get_or-take}
 use Rattle.lists.proofs.Part.{drop_take}
-use Rattle.board.proofs.Sides.{and_false}
+use Rattle.std.proofs.lemmas.Bool.{and_right}
 use Rattle.header.specs.Header.{sides_line, begins, is_digit, digit_count, digits_end, four_at_most, value_at, sized, numbers_at, header_of}
 use Rattle.std.specs.Prelude.{Result, Ok, Err, IfOk}
 use Rattle.refusal.specs.declared.Refusal.{Refusal}
@@ -57,7 +57,7 @@ ends_front bytes m from h =
 -- more than four
 four_long : (bytes : List ℕ) (from end mark : ℕ) → from + 4 < end → four_at_most bytes from end mark ≡ false
 unfolding four_at_most
-four_long bytes from end mark l = rw (lt-leb end (from + 4) l) (and_false (ltb from end))
+four_long bytes from end mark l = rw (lt-leb end (from + 4) l) (and_right (ltb from end) false refl)
 
 four_front : (bytes : List ℕ) (m from end mark : ℕ) → end < m → four_at_most (take m bytes) from end mark ≡ four_at_most bytes from end mark
 unfolding four_at_most

@@ -10,7 +10,7 @@ use Rattle.std.specs.Char.{is_ascii_digit}
 use Rattle.std.specs.List.{prefix_len}
 use borrow.Author.Tests.{ltb-true, leb-true}
 use lib.Dec.{leb, ltb}
-use Rattle.board.proofs.Sides.{both}
+use Rattle.std.proofs.lemmas.Bool.{and_parts}
 use Rattle.std.specs.Prelude.{Result, Ok, Err, IfOk}
 use Rattle.refusal.specs.declared.Refusal.{Refusal}
 use Rattle.header.specs.declared.Numeral.{Numeral}
@@ -63,8 +63,8 @@ value_more bytes k next end v d m l e =
 pub four_facts : (bytes : List ℕ) (from end mark : ℕ) → four_at_most bytes from end mark ≡ true → (from < end) × (end ≤ from + 4)
 unfolding four_at_most
 four_facts bytes from end mark e =
-    let first = both (ltb from end) _ e in
-    let second = both (leb end (from + 4)) _ first.1 in
+    let first = and_parts (ltb from end) _ e in
+    let second = and_parts (leb end (from + 4)) _ first.1 in
     (ltb-true _ _ first.0, leb-true _ _ second.0)
 
 -- a number, or none, and what is made of it

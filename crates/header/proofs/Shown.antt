@@ -8,7 +8,7 @@ use native.Mathlib.Omega.{arith}
 use borrow.Author.Tests.{leb-true}
 use lib.Dec.{leb}
 use Rattle.board.specs.Board.{least_side}
-use Rattle.board.proofs.Sides.{both}
+use Rattle.std.proofs.lemmas.Bool.{and_parts}
 use Rattle.std.specs.Prelude.{Result, Ok, Err, IfOk}
 use Rattle.refusal.specs.declared.Refusal.{Refusal}
 use Rattle.refusal.specs.declared.Refusal.TheVariants.{BadSide, BadNumber}
@@ -28,13 +28,13 @@ either most true x y p q = p refl
 either most false x y p q = q
 
 side_shown : (s : ℕ) → shown_side s ≡ true → s ≤ most_shown
-side_shown s e = leb-true s most_shown (both (leb least_side s) (leb s most_shown) e).1
+side_shown s e = leb-true s most_shown (and_parts (leb least_side s) (leb s most_shown) e).1
 
 sized_shown : (most h w at : ℕ) → at ≤ most → Shown most (sized h w at)
 unfolding sized
 sized_shown most h w at l =
     either most (shown_side h && shown_side w) (Ok (record { height = h; width = w; at = at })) (Err BadSide)
-    (λ e. let s = both (shown_side h) (shown_side w) e in (side_shown h s.0, side_shown w s.1, l))
+    (λ e. let s = and_parts (shown_side h) (shown_side w) e in (side_shown h s.0, side_shown w s.1, l))
     tt
 
 numbers_shown : (bytes : List ℕ) (from : ℕ) → Shown (from + 10) (numbers_at bytes from)

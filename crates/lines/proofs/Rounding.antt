@@ -10,8 +10,9 @@ use lib.Ieee.{Float, nan, inf, fin, binary32, le, mul, round, of_int, of_bits, t
 use lib.Ieee.Exact.{HasValue}
 use lib.Ieee.Order.{round_mono}
 use lib.Ieee.Positive.{positive, own_value, positive_of_value, values_of_le, le_trans_positive, between, mul_at}
+use Rattle.std.proofs.lemmas.Float.{T_from_true}
 use Rattle.binary32.specs.Binary32.{float, trunc}
-use Rattle.binary32.proofs.Values.{T_of, whole_value}
+use Rattle.binary32.proofs.Values.{whole_value}
 use Rattle.lines.specs.Lines.{narrow_gap}
 
 whole_positive : (n : ℕ) → 1 ≤ n → n ≤ 4096 → T (positive (float n))
@@ -89,8 +90,8 @@ not_narrow e l h = go (narrow_gap e e) refl
         let under = product_le eight_tenths e (e - 1) (omega arith) h k in
         let p = whole_positive e (omega arith) h in
         let r = whole_positive (e - 1) (omega arith) (omega arith) in
-        let above = between (float e) z (float (e - 1)) p r (T_of q) under in
-        let back = le_trans_positive (float e) z (float (e - 1)) p above r (T_of q) under in
+        let above = between (float e) z (float (e - 1)) p r (T_from_true _ q) under in
+        let back = le_trans_positive (float e) z (float (e - 1)) p above r (T_from_true _ q) under in
         let whole = whole_value e (omega arith) in
         let less = whole_value (e - 1) (omega arith) in
         absurd (omega (arith, values_of_le (float e) (float (e - 1)) e 1 (e - 1) 1 p r whole less back))

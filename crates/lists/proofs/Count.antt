@@ -3,10 +3,8 @@ use Prim.Native.Nat.{ℕ, suc, ◌+◌, ◌≤◌, ◌<◌}
 use mathlib.Core.Path.{◌≡◌, refl}
 use mathlib.Core.Bool.{Bool, true, false, cond}
 use mathlib.Core.List.{List, [], ◌∷◌, ◌++◌}
-use native.Mathlib.Numerals.{add-one}
 use native.Mathlib.Omega.{arith}
-use lib.ListN.{length, get_or, take, drop}
-use lib.Seq.{drop-cons, drop-length}
+use lib.ListN.{length, get_or, take}
 use mir.Val.{bool_byte}
 use Rattle.std.proofs.lemmas.List.{take_more}
 use Rattle.lists.specs.Count.{count}
@@ -15,14 +13,6 @@ module _ {A : Type 0} (test : A → Bool) where
   pub count_append : (a b : List A) → count test (a ++ b) ≡ count test a + count test b
   count_append [] b = omega arith
   count_append (x ∷ a) b = omega (arith, count_append a b)
-
-  -- the entry at k by itself, and those after it
-  pub count_next : (l : List A) (k : ℕ) (d : A) → k < length l
-      → count test (drop k l) ≡ count test (get_or l k d ∷ []) + count test (drop (k + 1) l)
-  count_next l k d h = rw (drop-cons l k d h, add-one k) (omega arith)
-
-  pub count_none : (l : List A) (k : ℕ) → k ≡ length l → count test (drop k l) ≡ 0
-  count_none l k e = rw (e, drop-length)
 
   pub count_le : (l : List A) → count test l ≤ length l
   count_le [] = omega arith

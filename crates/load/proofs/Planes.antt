@@ -2,14 +2,12 @@
 use Prim.Native.Nat.{ℕ, zero, suc, ◌+◌, ◌*◌, ◌/◌, ◌%◌, ◌≤◌, ◌<◌}
 use mathlib.Core.Path.{◌≡◌, refl, sym, ap, ◌∙◌}
 use mathlib.Core.List.{List, ◌++◌}
-use mathlib.Core.Bool.{Bool, true, false}
-use mathlib.Core.Logic.{◌⊎◌, inl, inr, ⊎_elim}
+use mathlib.Core.Logic.{⊎_elim}
 use native.Mathlib.Nat.{eq-or-lt_of_le, div-add-mod'}
 use native.Mathlib.Omega.{arith}
-use borrow.Author.Tests.{leb-true, leb-false}
-use lib.Dec.{leb}
 use lib.ListN.{length, set, get_or, drop, length-append, length-drop, length-set}
 use lib.Seq.{get_or-set_same, get_or-set_other, ext_get_or}
+use Rattle.std.proofs.lemmas.Bool.{cases_lt}
 use Rattle.lists.specs.Front.{AtFront}
 use Rattle.lists.specs.Tab.{grid}
 use Rattle.lists.proofs.Tab.{length_tab_from, get_or_tab}
@@ -82,7 +80,7 @@ module _ {A : Type 0} (z : A) (g : ℕ → ℕ → A) (n : ℕ) where
       front_by (3 * n) long f
       (ext_get_or z out (list ++ drop (3 * n) d)
       (h.len ∙ sym (simp (length-append, length_tab_from, length-drop) (omega arith)))
-      (λ r s. ⊎_elim (λ b. h.rest r b ∙ sym (front_beyond z r whole (rw long b))) (λ b. within r b) (le_or_lt (3 * n) r)))
+      (λ r s. ⊎_elim (λ b. within r b) (λ b. h.rest r b ∙ sym (front_beyond z r whole (rw long b))) (cases_lt r (3 * n))))
     where
       list : List A
       list = grid 3 n g
@@ -92,13 +90,6 @@ module _ {A : Type 0} (z : A) (g : ℕ → ℕ → A) (n : ℕ) where
 
       whole : AtFront list d (list ++ drop (3 * n) d)
       whole = front_by (3 * n) long f refl
-
-      le_or_lt : (a b : ℕ) → (a ≤ b) ⊎ (b < a)
-      le_or_lt a b = go (leb a b) refl
-        where
-          go : (s : Bool) → leb a b ≡ s → (a ≤ b) ⊎ (b < a)
-          go true e = inl (leb-true a b e)
-          go false e = inr (leb-false a b e)
 
       within : (r : ℕ) → r < 3 * n → get_or out r z ≡ get_or (list ++ drop (3 * n) d) r z
       within r b =

@@ -1,38 +1,20 @@
 -- A number over the largest one is a unit, for any largest number that is a binary32: rounding keeps the order. Assumes nothing.
-use Prim.Native.Nat.{ℕ, zero, suc, ◌*◌, ◌^◌, ◌<◌, ◌≤◌}
-use mathlib.Core.Path.{◌≡◌, refl, sym, subst, ◌∙◌}
-use mathlib.Core.Bool.{Bool, true, false, cond, true≢false}
+use Prim.Native.Nat.{ℕ, ◌*◌, ◌<◌, ◌≤◌}
+use mathlib.Core.Path.{◌≡◌, refl, sym, ◌∙◌}
+use mathlib.Core.Bool.{true, false, true≢false}
 use native.Mathlib.Nat.{mul-one, zero-mul, mul-pos, lt_irrefl}
 use native.Mathlib.Omega.{arith}
 use borrow.Author.Tests.{ne_eqb}
-use lib.Dec.{ltb}
 use lib.IntN.{pos}
-use lib.Ieee.{Float, nan, inf, fin, binary32, up, down, round, div, of_int, of_bits, le, units, odd}
-use lib.Ieee.Fits.{down_pos, round_is, round-fits}
+use lib.Ieee.{Float, nan, inf, fin, binary32, up, down, round, div, of_int, of_bits, le}
+use lib.Ieee.Fits.{down_pos, round-fits}
 use lib.Ieee.Exact.{HasValue}
 use lib.Ieee.Order.{round_mono, transfer}
 use Rattle.binary32.specs.Binary32.{float, unit}
-use Rattle.binary32.proofs.Order.{NonNegative, is_true}
+use Rattle.binary32.proofs.Order.{is_true, round_positive}
 use Rattle.binary32.proofs.Plain.{Plain, at_most_bits}
 use Rattle.binary32.proofs.Values.{whole_value}
 use Rattle.load.specs.Load.{most_byte, level}
-
--- a rounded value that is not negative has no sign
-odd_positive : (d q k l : ℕ) → NonNegative (odd d false q k l)
-unfolding odd
-odd_positive d zero k l = tt
-odd_positive d (suc q) k l = tt
-
-units_positive : (q k : ℕ) → NonNegative (units binary32 false q k)
-unfolding units
-units_positive q k = go (ltb (q * 2 ^ k) (2 ^ 277))
-  where
-    go : (t : Bool) → NonNegative (cond t (odd 25 false q k 149) (inf false))
-    go true = odd_positive 25 q k 149
-    go false = tt
-
-round_positive : (a b : ℕ) → NonNegative (round binary32 false a b)
-round_positive a b = subst NonNegative (sym (round_is binary32 false a b)) (units_positive _ _)
 
 one_is : round binary32 false 1 1 ≡ fin false 1 (pos 0)
 unfolding round

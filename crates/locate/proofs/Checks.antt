@@ -10,7 +10,8 @@ use Rattle.board.specs.declared.Board.{Board}
 use Rattle.board.specs.Board.{least_located, least_factor, most_factor, outside, sides_outside, factor_outside}
 use Rattle.board.specs.Planes.{planes_answer}
 use Rattle.board.specs.Inner.{FactorIn, FitPlanes}
-use Rattle.board.proofs.Sides.{neither, passed, factor_in}
+use Rattle.std.proofs.lemmas.Bool.{or_parts}
+use Rattle.board.proofs.Sides.{passed, factor_in}
 use Rattle.board.proofs.Planes.{planes_fit, answer_same}
 use Rattle.locate.specs.Locate.{Lent, lent, slices_short, checked}
 use Rattle.locate.specs.Inner.{NoneShort}
@@ -24,10 +25,10 @@ short_same h w s = refl
 pub none_short : (h w : ℕ) (s : Lent) → slices_short h w s ≡ false → NoneShort h w s
 unfolding slices_short
 none_short h w s e =
-    let a = neither (ltb (length s.edges) (h * w)) _ e in
-    let b = neither (ltb (length s.scores) (h + w)) _ a.1 in
-    let c = neither (ltb (length s.scratch_f32) (h * w)) _ b.1 in
-    let d = neither (ltb (length s.scratch_u8) (h * w)) _ c.1 in
+    let a = or_parts (ltb (length s.edges) (h * w)) _ e in
+    let b = or_parts (ltb (length s.scores) (h + w)) _ a.1 in
+    let c = or_parts (ltb (length s.scratch_f32) (h * w)) _ b.1 in
+    let d = or_parts (ltb (length s.scratch_u8) (h * w)) _ c.1 in
     record {
       edges_in = ltb-false _ _ a.0;
       scores_in = ltb-false _ _ b.0;

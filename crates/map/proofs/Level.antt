@@ -1,22 +1,22 @@
 -- The level of a unit is at most 255, as rounding keeps the order, and the level of a byte over 255.0 is the byte. Assumes nothing.
-use Prim.Native.Nat.{ℕ, zero, suc, ◌+◌, ◌*◌, ◌^◌, ◌<◌, ◌≤◌}
-use mathlib.Core.Path.{◌≡◌, refl, sym, subst, ◌∙◌}
-use mathlib.Core.Bool.{Bool, true, false, cond, ◌&&◌}
+use Prim.Native.Nat.{ℕ, zero, suc, ◌+◌, ◌*◌, ◌<◌, ◌≤◌}
+use mathlib.Core.Path.{◌≡◌, refl, ◌∙◌}
+use mathlib.Core.Bool.{Bool, true, false, ◌&&◌}
 use mathlib.Core.Logic.{⊎_elim}
 use native.Mathlib.Nat.{mul-one, one-mul, eq-or-lt_of_le}
 use native.Mathlib.Omega.{arith}
 use borrow.Author.Tests.{eqb-true, leb-true}
-use lib.Dec.{T, eqb, ltb}
+use lib.Dec.{T, eqb}
 use lib.IntN.{pos, negsuc}
-use lib.Ieee.{Float, nan, inf, fin, binary32, up, down, round, sum, mul, add, div, of_int, of_bits, to_bits, to_unsigned, le, fits, units, odd}
-use lib.Ieee.Fits.{down_pos, round_is}
+use lib.Ieee.{Float, nan, inf, fin, binary32, up, down, round, sum, mul, add, div, of_int, of_bits, to_bits, to_unsigned, le, fits}
+use lib.Ieee.Fits.{down_pos}
 use lib.Ieee.Order.{round_mono}
+use Rattle.std.proofs.lemmas.Float.{T_from_true}
 use Rattle.binary32.specs.Binary32.{unit, trunc}
-use Rattle.binary32.proofs.Order.{or_le, NonNegative}
+use Rattle.binary32.proofs.Order.{or_le, NonNegative, round_positive}
 use Rattle.binary32.proofs.Plain.{bits_plain, at_most_bits}
 use Rattle.binary32.proofs.Share.{cut_below}
-use Rattle.binary32.proofs.Values.{T_of}
-use Rattle.board.proofs.Sides.{both}
+use Rattle.std.proofs.lemmas.Bool.{and_parts}
 use Rattle.load.specs.Load.{most_byte, level}
 use Rattle.map.specs.Map.{green_level}
 
@@ -33,30 +33,13 @@ all_come_back = refl
 comes_back : (n b : ℕ) → each_comes_back n ≡ true → b < n → eqb (green_level (level most_byte b)) b ≡ true
 comes_back zero b e l = absurd (omega arith)
 comes_back (suc n) b e l =
-    let s = both (eqb (green_level (level most_byte n)) n) (each_comes_back n) e in
+    let s = and_parts (eqb (green_level (level most_byte n)) n) (each_comes_back n) e in
     ⊎_elim (λ q. rw q s.0) (λ q. comes_back n b s.1 q) (eq-or-lt_of_le {n = b} {m = n} (omega arith))
 
 pub byte_level : (b : ℕ) → b ≤ most_byte → green_level (level most_byte b) ≡ b
 byte_level b l = eqb-true _ b (comes_back 256 b all_come_back (omega arith))
 
 -- ---- any unit: rounding keeps the order
-
--- a rounded value that is not negative has no sign
-odd_positive : (d q k l : ℕ) → NonNegative (odd d false q k l)
-unfolding odd
-odd_positive d zero k l = tt
-odd_positive d (suc q) k l = tt
-
-units_positive : (q k : ℕ) → NonNegative (units binary32 false q k)
-unfolding units
-units_positive q k = go (ltb (q * 2 ^ k) (2 ^ 277))
-  where
-    go : (t : Bool) → NonNegative (cond t (odd 25 false q k 149) (inf false))
-    go true = odd_positive 25 q k 149
-    go false = tt
-
-round_positive : (a b : ℕ) → NonNegative (round binary32 false a b)
-round_positive a b = subst NonNegative (sym (round_is binary32 false a b)) (units_positive _ _)
 
 -- at most 255.0, and 0.5 more is at most 255.5
 half_more : (x : Float) → NonNegative x → T (le x (fin false 255 (pos 0))) → trunc (add binary32 x (fin false 1 (negsuc 0))) < 256
@@ -90,4 +73,4 @@ pub level_most : (v : Float) → T (fits binary32 v) → unit v ≡ true → gre
 unfolding green_level unit of_bits
 level_most v f u =
     let p = bits_plain v f (omega (arith, leb-true (to_bits binary32 v) 0x3F800000 u)) in
-    times_most v p.positive (T_of (at_most_bits 0x3F800000 p (omega arith) ∙ u))
+    times_most v p.positive (T_from_true _ (at_most_bits 0x3F800000 p (omega arith) ∙ u))

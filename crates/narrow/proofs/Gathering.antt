@@ -8,6 +8,7 @@ use native.Mathlib.Omega.{arith}
 use lib.Arith.{digits_lt, digits_div, digits_mod}
 use lib.Ieee.{Float, nan}
 use lib.ListN.{length, get_or, set, length-set}
+use Rattle.std.proofs.lemmas.Nat.{same_from_place}
 use Rattle.std.proofs.lemmas.Grind.{common_steps}
 use Rattle.select.specs.Inner.{list_count, list_of}
 use Rattle.narrow.specs.Inner.{Gathered}
@@ -20,12 +21,6 @@ pub record Gathering (t f m width at : ℕ) (planes : List Float) (x : List (Lis
       → list_of x l (u * f + v) ≡ get_or planes (at + u * width + l * f + v) nan
 
 -- two digits tell the number
-digits_same : {n a b c d : ℕ} → b < n → d < n → a * n + b ≡ c * n + d → (a ≡ c) × (b ≡ d)
-digits_same {n} {a} {b} {c} {d} p q e = (
-  sym (digits_div a p) ∙ ap (λ (k : ℕ). k / n) e ∙ digits_div c q,
-  sym (digits_mod a p) ∙ ap (λ (k : ℕ). k % n) e ∙ digits_mod c q,
-)
-
 pub gathered_more : {f m width at : ℕ} (u v l : ℕ) {planes : List Float} {x : List (List Float)}
     → Gathering ((u * m + l) * f + v) f m width at planes x
     → m ≤ list_count → u < f → v < f → l < m
@@ -40,11 +35,11 @@ gathered_more {f} {m} {width} {at} u v l {planes} {x} G M U V L =
       wide = λ i h. grind (arith, common_steps, G.wide i);
       here = λ u' v' l' a b c d.
           ⊎_elim (λ (e : (u' * m + l') * f + v' ≡ (u * m + l) * f + v).
-          let p = digits_same b V e in
-          let q = digits_same c L p.0 in
+          let p = same_from_place _ _ _ _ _ b V e in
+          let q = same_from_place _ _ _ _ _ c L p.0 in
           rw (q.0, q.1, p.1) (grind (arith, common_steps)))
           (λ (e : (u' * m + l') * f + v' < (u * m + l) * f + v).
-          let other : u' * f + v' ≡ k → l' ≡ l → ⊥ = λ z s. let q = digits_same b V z in absurd (omega (arith, rw (q.0, q.1, s) at e)) in
+          let other : u' * f + v' ≡ k → l' ≡ l → ⊥ = λ z s. let q = same_from_place _ _ _ _ _ b V z in absurd (omega (arith, rw (q.0, q.1, s) at e)) in
           grind (arith, common_steps, other, G.here u' v' l' a b c e))
           (eq-or-lt_of_le {n = (u' * m + l') * f + v'} {m = (u * m + l) * f + v} (omega arith));
     }

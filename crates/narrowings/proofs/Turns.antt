@@ -14,7 +14,7 @@ use Rattle.board.specs.declared.Bounds.{Bounds}
 use Rattle.board.specs.Board.{least_plane_side, least_located}
 use Rattle.board.specs.Inner.{FactorIn, FitPlanes}
 use Rattle.board.proofs.Planes.{fit_lower}
-use Rattle.board.proofs.Sides.{neither}
+use Rattle.std.proofs.lemmas.Bool.{or_parts}
 use Rattle.narrow.specs.Narrow.{narrow}
 use Rattle.narrow.proofs.Laws.{smaller, narrow_length, narrow_fit}
 use Rattle.bounds.proofs.Laws.{Around, around}
@@ -26,14 +26,14 @@ use Rattle.narrowings.specs.Inner.{Looks, Narrows}
 large : (h w : ℕ) → small h w ≡ false → (67 ≤ h) × (67 ≤ w)
 unfolding small
 large h w e =
-    let a = neither (leb (h - 2) 64) (leb (w - 2) 64) e in
+    let a = or_parts (leb (h - 2) 64) (leb (w - 2) 64) e in
     (omega (arith, leb-false (h - 2) 64 a.0), omega (arith, leb-false (w - 2) 64 a.1))
 
 -- spans of bounds that are not thin
 pub spans : (h w : ℕ) (b : Bounds) → thin h w b ≡ false → ((h - 2) / 3 < b.r_2 - b.r_1) × ((w - 2) / 3 < b.c_2 - b.c_1)
 unfolding thin
 spans h w b e =
-    let a = neither (leb (b.r_2 - b.r_1) ((h - 2) / 3)) (leb (b.c_2 - b.c_1) ((w - 2) / 3)) e in
+    let a = or_parts (leb (b.r_2 - b.r_1) ((h - 2) / 3)) (leb (b.c_2 - b.c_1) ((w - 2) / 3)) e in
     (leb-false (b.r_2 - b.r_1) ((h - 2) / 3) a.0, leb-false (b.c_2 - b.c_1) ((w - 2) / 3) a.1)
 
 -- what passes on: the planes are fit, the sides are within the first ones, and the slice is as long

@@ -43,19 +43,6 @@ readable s room f r g h =
       row = omega (arith, k.first, f.shortest);
     }
 
--- with a longer row
-pub readable_more : {e : ℕ} {lines : List ℕ} {room more : ℕ} → Readable e lines room → room ≤ more → Readable e lines more
-readable_more r h =
-    record {
-      low = r.low;
-      high = r.high;
-      some = r.some;
-      few = r.few;
-      entries = r.entries;
-      rising = r.rising;
-      row = omega (arith, r.row);
-    }
-
 pub readable_wins : {e : ℕ} {lines : List ℕ} {room : ℕ} → Readable e lines room → Wins lines e (winner e lines)
 readable_wins {e} {lines} r = winner_wins e lines r.some r.low (omega (arith, r.high))
 

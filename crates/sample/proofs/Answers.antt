@@ -16,7 +16,8 @@ use Rattle.lists.specs.Front.{AtFront}
 use Rattle.lists.proofs.Front.{front_none}
 use Rattle.board.specs.declared.Board.{Board}
 use Rattle.board.specs.Board.{least_plane_side, most_size}
-use Rattle.board.proofs.Sides.{both, neither, passed}
+use Rattle.std.proofs.lemmas.Bool.{and_parts, or_parts}
+use Rattle.board.proofs.Sides.{passed}
 use Rattle.board.specs.Planes.{planes_answer}
 use Rattle.sample.specs.Inner.{AxisIn, CellGives}
 use Rattle.sample.specs.Sample.{most_number, row_at, column_at, pitch_outside, all_below, numbers_above, on_board, cell, cell_answer}
@@ -32,7 +33,7 @@ all_below_same f g limit (suc n) h = rw (all_below_same f g limit n (λ i b. h i
 pub below_at : (f : ℕ → ℕ) (limit n : ℕ) → all_below f limit n ≡ true → (i : ℕ) → i < n → f i < limit
 below_at f limit zero e i b = absurd (not-suc-le-zero b)
 below_at f limit (suc n) e i b =
-    let d = both (all_below f limit n) (ltb (f n) limit) e in
+    let d = and_parts (all_below f limit n) (ltb (f n) limit) e in
     go (ltb i n) refl (below_at f limit n d.0 i) (ltb-true (f n) limit d.1)
   where
     go : (t : Bool) → ltb i n ≡ t → (i < n → f i < limit) → f n < limit → f i < limit
@@ -73,12 +74,12 @@ pub record NumbersIn (x y r₁ c₁ r₀ c₀ size : ℕ) : Type 0 where
 pub numbers_in : (x y r₁ c₁ r₀ c₀ size : ℕ) → numbers_above x y r₁ c₁ r₀ c₀ size ≡ false → NumbersIn x y r₁ c₁ r₀ c₀ size
 unfolding numbers_above
 numbers_in x y r₁ c₁ r₀ c₀ size e =
-    let f = neither _ (ltb most_size size) e in
-    let e = neither _ (ltb most_number c₀) f.0 in
-    let d = neither _ (ltb most_number r₀) e.0 in
-    let c = neither _ (ltb most_number c₁) d.0 in
-    let b = neither _ (ltb most_number r₁) c.0 in
-    let a = neither (ltb most_number x) (ltb most_number y) b.0 in
+    let f = or_parts _ (ltb most_size size) e in
+    let e = or_parts _ (ltb most_number c₀) f.0 in
+    let d = or_parts _ (ltb most_number r₀) e.0 in
+    let c = or_parts _ (ltb most_number c₁) d.0 in
+    let b = or_parts _ (ltb most_number r₁) c.0 in
+    let a = or_parts (ltb most_number x) (ltb most_number y) b.0 in
     let s = ltb-false most_size size f.1 in
     let at_most : (n : ℕ) → ltb most_number n ≡ false → n ≤ most_number = ltb-false most_number in
     record {
@@ -107,7 +108,7 @@ cell_in b x y size room e =
     let o = passed (ltb room (3 * (size * size))) 2 _ c.1 in
     let rows = all_below (row_at b x size) b.height size in
     let columns = all_below (column_at b y size) b.width size in
-    let a = both rows columns (all_in (rows && columns) o.1) in
+    let a = and_parts rows columns (all_in (rows && columns) o.1) in
     record {
       numbers = numbers_in x y b.r_1 b.c_1 b.r0 b.c0 size n.0;
       output = ltb-false room (3 * (size * size)) o.0;

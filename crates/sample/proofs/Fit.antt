@@ -5,7 +5,8 @@ use Rattle.board.specs.declared.Board.{Board}
 use Rattle.board.specs.Board.{most_size, least_plane_side}
 use Rattle.board.specs.Planes.{planes_answer}
 use Rattle.board.specs.Inner.{FitPlanes}
-use Rattle.board.proofs.Sides.{passed, neither}
+use Rattle.std.proofs.lemmas.Bool.{or_parts}
+use Rattle.board.proofs.Sides.{passed}
 use Rattle.board.proofs.Planes.{planes_fit}
 use Rattle.sample.specs.Inner.{RecordIn}
 use Rattle.sample.specs.Sample.{most_number, pitch_outside, numbers_above, on_board, all_below, row_at, column_at, sample_answer}
@@ -27,9 +28,9 @@ pub record_in : (b : Board) → record_answer b ≡ 0 → RecordIn b
 unfolding record_answer corner_above
 record_in b e =
     let p = passed (pitch_outside b.pixelr || pitch_outside b.pixelc) 9 _ e in
-    let n = neither _ (ltb most_number b.c0) (passed (corner_above b) 10 0 p.1).0 in
-    let d = neither _ (ltb most_number b.r0) n.0 in
-    let c = neither (ltb most_number b.r_1) (ltb most_number b.c_1) d.0 in
+    let n = or_parts _ (ltb most_number b.c0) (passed (corner_above b) 10 0 p.1).0 in
+    let d = or_parts _ (ltb most_number b.r0) n.0 in
+    let c = or_parts (ltb most_number b.r_1) (ltb most_number b.c_1) d.0 in
     record {
       top_in = at_most b.r_1 c.0;
       left_in = at_most b.c_1 c.1;

@@ -9,6 +9,7 @@ use native.Mathlib.Omega.{arith}
 use lib.ListN.{length, get_or, set, drop, length-append, length-map, length-drop}
 use borrow.Rule.Slice.PartMut.{put_mid, mid_of, mid_len}
 use lib.Seq.{drop-drop}
+use Rattle.std.proofs.lemmas.List.{get_or-map, map-append}
 use Rattle.lists.specs.Front.{AtFront}
 use Rattle.lists.specs.Tab.{tab_from, tab}
 use Rattle.lists.proofs.Tab.{length_tab_from}
@@ -57,16 +58,11 @@ length_scores E from to c₁ c₂ = length-map (places c₁ c₂) (score E from 
 
 -- ---- entries
 
-get_d_map : {A B : Type 0} (f : A → B) (l : List A) (i : ℕ) (z : A) (y : B) → i < length l → get_or (map f l) i y ≡ f (get_or l i z)
-get_d_map f [] i z y h = absurd (not-suc-le-zero h)
-get_d_map f (x ∷ l) zero z y h = refl
-get_d_map f (x ∷ l) (suc i) z y h = get_d_map f l i z y (le_of_suc-le-suc h)
-
 -- each entry of the list is the score of its place
 pub score_at : (E : ℕ → ℕ → Bool) (from to c₁ c₂ i : ℕ) → i < place_count c₁ c₂ →
     get_or (scores E from to c₁ c₂) i 0 ≡ score E from to (get_or (places c₁ c₂) i (at 0 0))
 unfolding scores place_count
-score_at E from to c₁ c₂ i l = get_d_map (score E from to) (places c₁ c₂) i (at 0 0) 0 l
+score_at E from to c₁ c₂ i l = get_or-map (score E from to) (places c₁ c₂) i (at 0 0) 0 l
 
 -- no score is above the number of steps
 pub scores_most : (E : ℕ → ℕ → Bool) (from to c₁ c₂ i : ℕ) → get_or (scores E from to c₁ c₂) i 0 ≤ to - from
@@ -77,10 +73,6 @@ scores_most E from to c₁ c₂ i = not_more (places c₁ c₂) i
     not_more [] i = omega arith
     not_more (p ∷ l) zero = omega arith
     not_more (p ∷ l) (suc i) = not_more l i
-
-map_append : {A B : Type 0} (f : A → B) (l m : List A) → map f (l ++ m) ≡ map f l ++ map f m
-map_append f [] m = refl
-map_append f (x ∷ l) m = ap (λ r. f x ∷ r) (map_append f l m)
 
 map_tab : {A B : Type 0} (f : A → B) (g : ℕ → A) (from n : ℕ) → map f (tab_from from n g) ≡ tab_from from n (λ i. f (g i))
 map_tab f g from zero = refl
@@ -115,7 +107,7 @@ module _ (E : ℕ → ℕ → Bool) (from to c₁ c₂ : ℕ) where
   scores_parts =
       let p : ℕ → Place = λ i. at (c₁ + i) 2 in
       let n = place_count c₁ c₂ - 4 in
-      ap (map (score E from to)) (places_are c₁ c₂) ∙ rw (map_append (score E from to) (tab n p) _, map_tab (score E from to) p 0 n)
+      ap (map (score E from to)) (places_are c₁ c₂) ∙ rw (map-append (score E from to) (tab n p) _, map_tab (score E from to) p 0 n)
 
   -- the middle as a part of a list, and the border places at its ends, make the scores
   pub joined : (n : ℕ) (d m u : List ℕ) → n ≡ place_count c₁ c₂ → 4 ≤ n → n ≤ length d →

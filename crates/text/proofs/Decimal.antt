@@ -74,7 +74,3 @@ line_first (n ∷ ns) l = append_assoc (decimal n) (following ns) (10 ∷ [])
 pub line_next : (ns : List ℕ) (k : ℕ) → k < length ns
     → following (drop k ns) ++ (10 ∷ []) ≡ (32 ∷ decimal (get_or ns k 0)) ++ (following (drop (k + 1) ns) ++ (10 ∷ []))
 line_next ns k l = rw (add-one k, drop-cons ns k 0 l) (append_assoc (32 ∷ decimal (get_or ns k 0)) (following (drop (suc k) ns)) (10 ∷ []))
-
-pub line_none : (ns : List ℕ) → length ns ≡ 0 → numbers_line ns ≡ 10 ∷ []
-line_none [] e = refl
-line_none (n ∷ ns) e = absurd (omega arith)

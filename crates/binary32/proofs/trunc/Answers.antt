@@ -1,10 +1,11 @@
 use lib.Ieee.{neg, of_bits}
-use Rattle.binary32.proofs.Values.{T_of, trunc_high, trunc_low}
+use Rattle.std.proofs.lemmas.Float.{T_from_true}
+use Rattle.binary32.proofs.Values.{trunc_high, trunc_low}
 use Rattle.binary32.proofs.trunc.Goals as goal
 
 pub truncating_f32_to_u64-requires : goal.truncating_f32_to_u64-requires
 unfolding neg of_bits
-truncating_f32_to_u64-requires c = record { lower_bound = T_of c.if-x.true; upper_bound = T_of c.if-x-2.true }
+truncating_f32_to_u64-requires c = record { lower_bound = T_from_true _ c.if-x.true; upper_bound = T_from_true _ c.if-x-2.true }
 
 pub returns-else-x-2 : goal.returns-else-x-2
 unfolding neg of_bits
