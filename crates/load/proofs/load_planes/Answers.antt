@@ -2,23 +2,10 @@ use Prim.Native.Nat.{◌*◌}
 use mathlib.Core.Path.{◌≡◌, ◌∙◌}
 use native.Mathlib.Omega.{arith}
 use lib.Ieee.{nan}
-use lib.ListN.{length-set}
 use Rattle.load.specs.Load.{most_byte}
-use Rattle.load.proofs.Planes.{laid_none, laid_more, laid_all}
+use Rattle.load.proofs.Planes.{laid_more, laid_all}
 use Rattle.load.proofs.Shown.{value_is}
 use Rattle.load.proofs.load_planes.Goals as goal
-
-pub loop-i-init : goal.loop-i-init
-loop-i-init c = (omega arith, laid_none nan _ _)
-
-pub bounds-planes-i : goal.bounds-planes-i
-bounds-planes-i c = omega (arith, c.loop-i.invariant.1.len)
-
-pub bounds-planes-n : goal.bounds-planes-n
-bounds-planes-n c = simp length-set (omega (arith, c.loop-i.invariant.1.len))
-
-pub bounds-planes-n-in-loop-i : goal.bounds-planes-n-in-loop-i
-bounds-planes-n-in-loop-i c = simp length-set (omega (arith, c.loop-i.invariant.1.len))
 
 pub loop-i-preserved : goal.loop-i-preserved
 loop-i-preserved c =
@@ -31,9 +18,6 @@ loop-i-preserved c =
           (c.level-in-loop-i.ensures ∙ value 1 c.loop-i.i _ _ pixel.green_in (omega arith))
           (c.level-in-loop-i-2.ensures ∙ value 2 c.loop-i.i _ _ pixel.blue_in (omega arith)),
     )
-
-pub shape_of-planes : goal.shape_of-planes
-shape_of-planes c = c.loop-i.invariant.1.len
 
 pub returns : goal.returns
 returns c =

@@ -1,6 +1,5 @@
-use Rattle.std.proofs.Common.{◌≡◌, ◌∙◌, ◌*◌, arith, rules}
-use native.Mathlib.Nat.{zero-mul}
-use Rattle.lists.proofs.Front.{front_none, front_row_part}
+use Rattle.std.proofs.Common.{◌∙◌, ◌*◌, arith, rules}
+use Rattle.lists.proofs.Front.{front_row_part}
 use Rattle.sample.proofs.Answers.{cell_in}
 use Rattle.sample.proofs.Cells.{cell_plane, places_are, row_in, column_in, plane_is, plane_fits, plane_room}
 use Rattle.sample.proofs.copy_cell.Goals as goal
@@ -10,9 +9,6 @@ rows-requires c = (cell_in _ _ _ _ _ c.requires.answered).numbers.down
 
 pub columns-requires : goal.columns-requires
 columns-requires c = (cell_in _ _ _ _ _ c.requires.answered).numbers.across
-
-pub loop-k-init : goal.loop-k-init
-loop-k-init c = rw zero-mul front_none
 
 pub slice_bounds-copy_plane-end-in-loop-k-3 : goal.slice_bounds-copy_plane-end-in-loop-k-3
 slice_bounds-copy_plane-end-in-loop-k-3 c =
@@ -42,6 +38,3 @@ loop-k-preserved c =
     front_row_part (cell_plane s.b s.planes.now s.x s.y s.size) c.loop-k.k (s.size * s.size) c.loop-k.invariant
     (omega (arith, plane_fits (cell_in _ _ _ _ _ c.requires.answered) c.loop-k.k c.loop-k-test.true))
     (c.copy_plane.ensures ∙ plane_is s.planes.now p c.loop-k.k)
-
-pub returns : goal.returns
-returns c = let e : c.loop-k.k ≡ 3 = omega arith in rw e at c.loop-k.invariant

@@ -7,14 +7,6 @@ pub vote_lines-requires-clause-no_overflow : goal.vote_lines-requires-clause-no_
 vote_lines-requires-clause-no_overflow c o h =
     omega (arith, votes_few c.args.e c.args.lines.now c.loop-q.q c.requires.lines_in.2 o)
 
-pub loop-q-preserved : goal.loop-q-preserved
-loop-q-preserved c =
-    record {
-      width = omega arith;
-      high = omega arith;
-      picks = passed_more c.loop-q.invariant.picks (omega arith) (omega arith) (λ o h. omega arith) c.vote_lines.ensures c.best_in_row-best.ensures;
-    }
-
 pub returns : goal.returns
 returns c = winner_found c.args.e c.args.lines.now c.loop-q.invariant.picks (omega arith) (omega arith) (omega arith)
 
