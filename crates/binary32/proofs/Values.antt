@@ -1,8 +1,6 @@
 -- Single values: what the tests in the code tell of them, and the magnitude from the bits. Assumes nothing.
-use Rattle.std.proofs.Common.{◌≡◌, ℕ, zero, suc, ◌+◌, ◌-◌, ◌*◌, ◌/◌, ◌%◌, ◌^◌, ◌<◌, ◌≤◌, true, false, cond, not, T, pos, refl, true≢false, mod-eq_of_lt, one-mul, le-div_iff_mul-le, arith, ltb-false, le-leb}
-use mathlib.Core.Bool.{false≢true}
-use lib.Ieee.{Float, nan, inf, fin, binary32, lt, up, down, fits, is_nan, nan_bits, in_float, of_int, to_unsigned, of_bits, to_bits, top}
-use lib.Ieee.Fits.{down_pos}
+use Rattle.std.proofs.Common.{◌≡◌, ℕ, zero, suc, ◌+◌, ◌%◌, ◌<◌, ◌≤◌, true, false, cond, not, T, pos, refl, mod-eq_of_lt, arith, le-leb}
+use lib.Ieee.{Float, nan, inf, fin, binary32, fits, is_nan, nan_bits, in_float, of_int, of_bits, to_bits, top}
 use lib.Ieee.Exact.{HasValue}
 use lib.Ieee.Back.{round_whole}
 use lib.Ieee.Bits.{of_bits-to_bits, to_bits-lt, nan_bits_is}
@@ -23,27 +21,6 @@ in_float_lem {n} h = T_from_true _ (le-leb n 16777216 h)
 pub whole_value : (n : ℕ) → n ≤ 16777216 → HasValue (of_int binary32 (pos n)) false n 1
 unfolding of_int
 whole_value n h = round_whole binary32 false n h
-
--- ---- truncation outside the range that the kit's function takes
-
-pub trunc_low : (x : Float) → lt (fin true 1 (pos 0)) x ≡ false → 0 ≡ to_unsigned 64 x
-unfolding lt to_unsigned
-trunc_low nan e = refl
-trunc_low (inf true) e = refl
-trunc_low (inf false) e = absurd (true≢false e)
-trunc_low (fin true m k) e = refl
-trunc_low (fin false m k) e = absurd (omega (arith, ltb-false 0 (1 * down k + m * up k * 1) e, down_pos k, one-mul (down k)))
-
-pub trunc_high : (x : Float) → lt (fin true 1 (pos 0)) x ≡ true → lt x (fin false 1 (pos 64)) ≡ false → 2 ^ 64 - 1 ≡ to_unsigned 64 x
-unfolding lt to_unsigned
-trunc_high nan e q = absurd (false≢true e)
-trunc_high (inf true) e q = absurd (false≢true e)
-trunc_high (inf false) e q = refl
-trunc_high (fin true m k) e q = absurd (omega (arith, ltb-false 0 (m * up k * 1 + 2 ^ 64 * down k) q, down_pos k))
-trunc_high (fin false m k) e q =
-    let h : 2 ^ 64 * down k ≤ m * up k = omega (arith, ltb-false (m * up k * 1) (2 ^ 64 * down k) q) in
-    let d : 2 ^ 64 ≤ m * up k / down k = (le-div_iff_mul-le (down_pos k)).1 h in
-    omega arith
 
 -- ---- the magnitude: the bits of a value differ from those of its magnitude in the sign alone
 

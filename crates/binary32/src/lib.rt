@@ -1,6 +1,6 @@
 // Single binary32 values: the leaves that the later steps share (01, first paragraph and "How each operation declines").
 // Definitions: specs/Binary32. Laws for callers:
-// proofs/Values: what a test tells of a single value, whole numbers that are exact, truncation, the magnitude by its bits.
+// proofs/Values: what is no number is no unit, whole numbers that are exact, the magnitude by its bits.
 // proofs/Numbers: sums and magnitudes of numbers are numbers.
 // proofs/Order: values that are not negative, what is rounded without a sign among them, are ordered as their bits are.
 // proofs/Plain: the same for a comparison with a value given by its bits.
@@ -46,15 +46,7 @@ pub fn lesser(a: f32, b: f32) -> f32
 pub fn trunc(x: f32) -> u64
     ensures { result ≡ Spec.trunc x }
 {
-    if x > -1.0 {
-        if x < 18446744073709551616.0 {
-            std::num::truncating_f32_to_u64(x)
-        } else {
-            u64::MAX
-        }
-    } else {
-        0
-    }
+    std::num::saturating_f32_to_u64(x)
 }
 
 // The bits, if it is a number.

@@ -77,6 +77,10 @@ fn check(
         scratch_f32.now scratch_u8.now scratch_u32.now in
         answer_of result ≡ checked b factor s }
     ensures value { IfOk result (λ f. f.value ≡ factor) }
+    ensures fit { IfOk result (λ f. FitPlanes (least_located f.value) b.height b.width planes.now) }
+    ensures room { let s = lent planes.now edges.now scores.now
+        scratch_f32.now scratch_u8.now scratch_u32.now in
+        IfOk result (λ f. NoneShort b.height b.width s) }
 {
     let factor = Factor::new(factor).ok_or(Refusal::BadFactor)?;
     let least = factor.least_located();

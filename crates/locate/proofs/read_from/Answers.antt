@@ -1,27 +1,9 @@
 -- The last bounds, widened, are fit for the scores, and both axes are read over them.
-use Rattle.std.proofs.Common.{◌-◌, ◌*◌, take, sym, subst, arith}
+use Rattle.std.proofs.Common.{◌-◌, ◌*◌, take, sym, subst}
 use Rattle.strips.specs.Inner.{Scorable}
 use Rattle.axes.proofs.Scoring.{across_fit, down_fit, quarters_fit}
-use Rattle.locate.proofs.Leading.{picture_length, scorable, room_for}
+use Rattle.locate.proofs.Leading.{scorable, room_for}
 use Rattle.locate.proofs.read_from.Goals as goal
-
-pub slice_bounds-widen-end : goal.slice_bounds-widen-end
-slice_bounds-widen-end c = sym (picture_length c.requires)
-
-pub widen-wide-requires : goal.widen-wide-requires
-widen-wide-requires c =
-    let g = c.requires in (
-      omega (arith, g.low_h),
-      omega (arith, g.high_h),
-      omega (arith, g.low_w),
-      omega (arith, g.high_w),
-      omega arith,
-      omega (arith, picture_length g),
-      g.within,
-    )
-
-pub slice_bounds-read_axes-end : goal.slice_bounds-read_axes-end
-slice_bounds-read_axes-end c = sym (picture_length c.requires)
 
 pub read_axes-axes-requires : goal.read_axes-axes-requires
 read_axes-axes-requires c =
@@ -38,12 +20,3 @@ joined-requires c =
       rw is.columns_are (quarters_fit _ (across_fit _ _ is.scores_are fit)),
       rw is.rows_are (quarters_fit _ (down_fit _ _ is.scores_are fit)),
     )
-
-pub returns : goal.returns
-returns c =
-    let is = c.read_axes-axes.ensures in
-    let wide = c.widen-wide.ensures in
-    record {
-      located_is = rw (c.resized.ensures, is.columns_are, is.rows_are, wide) at c.joined.ensures;
-      scores_are = rw wide at is.scores_are;
-    }

@@ -3,10 +3,6 @@ use Rattle.locate.specs.Locate.{lent}
 use Rattle.locate.proofs.Working.{leads, works_small, works_read}
 use Rattle.locate.proofs.work.Goals as goal
 
-pub last_picture-l-requires : goal.last_picture-l-requires
-last_picture-l-requires c =
-    record { fit = c.requires.fit; room = (c.requires.room.edges_in, c.requires.room.f32_in) }
-
 pub returns-then-l : goal.returns-then-l
 returns-then-l c =
     let a = c.args in

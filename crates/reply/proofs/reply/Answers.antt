@@ -8,9 +8,6 @@ use Rattle.reply.proofs.Fitting.{lines_fit}
 use Rattle.reply.proofs.Room.{enough}
 use Rattle.reply.proofs.reply.Goals as goal
 
-pub slice_bounds-answer_to-end : goal.slice_bounds-answer_to-end
-slice_bounds-answer_to-end c = sym (length-take-le _ c.args.bytes.now (omega arith))
-
 pub write_lines-requires : goal.write_lines-requires
 write_lines-requires c = omega (arith, c.requires.2, lines_fit c.answer_to-values.result (search rules))
 

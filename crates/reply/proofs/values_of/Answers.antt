@@ -5,28 +5,10 @@ use Rattle.reply.proofs.Locating.{area}
 use Rattle.reply.proofs.Printed.{size, refused, inside, lent_length, lent_fit, prints}
 use Rattle.reply.proofs.values_of.Goals as goal
 
-pub overflow_mul-n : goal.overflow_mul-n
-overflow_mul-n c = omega (arith, area c.requires.0 c.requires.1)
-
-pub overflow_mul-n-2 : goal.overflow_mul-n-2
-overflow_mul-n-2 c = omega (arith, area c.requires.0 c.requires.1)
-
-pub slice_bounds-planes-end : goal.slice_bounds-planes-end
-slice_bounds-planes-end c = omega (arith, area c.requires.0 c.requires.1)
-
-pub slice_bounds-new-end : goal.slice_bounds-new-end
-slice_bounds-new-end c = sym (size c.requires.0 c.requires.1)
-
 pub returns-in-Err : goal.returns-in-Err
 returns-in-Err c =
     let some = number_some c.in-Err.refusal in
     rw c.from.ensures at c.alone.ensures ∙ refused c.in-Err.ensures (size c.requires.0 c.requires.1) (λ z. omega (arith, some, z))
-
-pub slice_bounds-planes-end-in-Ok : goal.slice_bounds-planes-end-in-Ok
-slice_bounds-planes-end-in-Ok c = inside c.in-Ok.ensures (size c.requires.0 c.requires.1) refl _
-
-pub slice_bounds-locate_shown-end : goal.slice_bounds-locate_shown-end
-slice_bounds-locate_shown-end c = lent_length c.in-Ok.ensures (size c.requires.0 c.requires.1) refl _
 
 pub locate_shown-requires : goal.locate_shown-requires
 locate_shown-requires c =
