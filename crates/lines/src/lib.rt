@@ -2,7 +2,7 @@
 // Laws for callers: proofs/Laws (the lines rise, two remain after the drops, e is above 5 and at most their extent).
 #![tactic(auto)]
 
-ghost use Rattle.std.specs.Prelude.{◌≡◌, ◌||◌, ◌+◌, ◌≤◌, ◌<◌, min, max, eqb, length};
+ghost use Rattle.std.specs.Prelude.{◌≡◌, ◌||◌, ◌+◌, ◌≤◌, ◌<◌, min, max, eqb, length, take};
 ghost use Rattle.lists.specs.Front.{AtFront};
 ghost use Rattle.rank.specs.Rank as Rank;
 ghost use Rattle.lines.specs.Lines.{largest, smoothed, smooth, line_threshold, entries_before, entries_behind, stands_out};
@@ -197,11 +197,12 @@ impl<'a> Scores<'a> {
     }
 
     // Their lines, and how many; t is scratch.
-    #[tactic(auto, using(crate::proofs::Smoothing::smooth_scores), unfolding(crate::specs::Lines::lines_of))]
+    #[tactic(auto, using(crate::proofs::Smoothing::smooth_scores, lists::proofs::Front::front_part), unfolding(crate::specs::Lines::lines_of))]
     pub fn find_lines(&self, t: &mut [u32], lines: &mut [u32]) -> usize
         requires { (length self.now.values.now ≤ length t.old) × (length self.now.values.now ≤ length lines.old) }
         ensures counted { result ≡ length (lines_of self.now.values.now) }
         ensures front { AtFront (lines_of self.now.values.now) lines.old lines.new }
+        ensures part { take result lines.new ≡ lines_of self.now.values.now }
     {
         self.small().smooth_into(t);
         let smoothed = Scores {
@@ -219,6 +220,7 @@ pub fn wide_gaps(lines: &[u32], out: &mut [u32]) -> usize
     requires { length lines.now ≤ length out.old }
     ensures counted { result ≡ length (wide_gaps lines.now) }
     ensures front { AtFront (wide_gaps lines.now) out.old out.new }
+    ensures part { take result out.new ≡ wide_gaps lines.now }
 {
     let mut n: usize = 0;
     for pair in lines.windows(2) {
