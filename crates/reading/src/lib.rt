@@ -165,7 +165,7 @@ fn check(list: &[u32], scratch: usize) -> Result<(), Refusal>
     ensures { answer_of result ≡ line_answer list.now scratch }
 {
     let n = list.len();
-    if n < SHORTEST || LONGEST < n {
+    if !(SHORTEST..=LONGEST).contains(&n) {
         return Err(Refusal::BadSide);
     }
     let room = 4 * n;

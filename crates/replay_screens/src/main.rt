@@ -74,9 +74,7 @@ impl Buffers {
         height: usize,
         width: usize,
     ) -> io::Result<()> {
-        let board = load::new(height, width, &self.pixels, &mut self.planes).unwrap_or(Board::fresh(
-            0, 0,
-        ));
+        let board = load::new(height, width, &self.pixels, &mut self.planes).unwrap_or_default();
         let l = locate::get_pos_pixel(
             board,
             factor,

@@ -14,7 +14,7 @@ use Rattle.lists.proofs.Grid.{row_column, row_fits}
 use Rattle.board.specs.declared.Board.{Board}
 use Rattle.board.specs.Board.{most_size}
 use Rattle.board.specs.Screen.{view}
-use Rattle.sample.specs.Sample.{row_at, column_at}
+use Rattle.sample.specs.Sample.{sampled_at, row_at, column_at}
 use Rattle.sample.specs.Inner.{row_value, plane_value}
 use Rattle.sample.proofs.Answers.{CellIn}
 
@@ -30,21 +30,25 @@ pub record PlacesAre (b : Board) (x y size room : ℕ) (rows columns : List ℕ)
   pub rows_are : (i : ℕ) → i < size → get_or rows i 0 ≡ row_at b x size i
   pub columns_are : (j : ℕ) → j < size → get_or columns j 0 ≡ column_at b y size j
 
--- they stand at the front of longer lists
-pub places_are : {b : Board} {x y size room : ℕ} (rows columns : List ℕ) → CellIn b x y size room
+-- what both axes of the cell give, at the front of longer lists
+pub places_are : {b : Board} {x y size room : ℕ} {k l m n k' l' m' n' : ℕ} {p p' : Float} (rows columns : List ℕ) → CellIn b x y size room
     → length rows ≡ most_size
     → length columns ≡ most_size
-    → ((i : ℕ) → i < size → get_or rows i 0 ≡ row_at b x size i)
-    → ((j : ℕ) → j < size → get_or columns j 0 ≡ column_at b y size j)
+    → (k ≡ b.r_1) × (l ≡ b.r0) × (p ≡ b.pixelr) × (m ≡ x) × (n ≡ size)
+    → ((i : ℕ) → i < n → get_or rows i 0 ≡ sampled_at k l p m n i)
+    → (k' ≡ b.c_1) × (l' ≡ b.c0) × (p' ≡ b.pixelc) × (m' ≡ y) × (n' ≡ size)
+    → ((j : ℕ) → j < n' → get_or columns j 0 ≡ sampled_at k' l' p' m' n' j)
     → PlacesAre b x y size room (take size rows) (take size columns)
-places_are {size = size} rows columns fit m n r c =
+places_are {size = size} rows columns fit long wide e r e' c =
     let in_limits = fit.numbers.down.size_in in
+    let down = rw (e.0, e.1, e.2, e.3, e.4) at r in
+    let across = rw (e'.0, e'.1, e'.2, e'.3, e'.4) at c in
     record {
       fit = fit;
       rows_length = length-take-le size rows (omega arith);
       columns_length = length-take-le size columns (omega arith);
-      rows_are = λ i h. get_or-take size rows i 0 h ∙ r i h;
-      columns_are = λ j h. get_or-take size columns j 0 h ∙ c j h;
+      rows_are = λ i h. get_or-take size rows i 0 h ∙ down i h;
+      columns_are = λ j h. get_or-take size columns j 0 h ∙ across j h;
     }
 
 -- a row of a plane, as a part of it

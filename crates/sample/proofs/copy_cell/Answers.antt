@@ -16,11 +16,8 @@ slice_bounds-copy_plane-end-in-loop-k-3 c =
 
 pub copy_plane-requires : goal.copy_plane-requires
 copy_plane-requires c =
-    let r = c.rows.ensures in
-    let k = c.columns.ensures in
     let p = places_are c.places-rows.result c.places-columns.result (cell_in _ _ _ _ _ c.requires.answered) (search rules) (search rules)
-    (rw (r.0, r.1, r.2, r.3, r.4) at c.places-rows.ensures)
-    (rw (k.0, k.1, k.2, k.3, k.4) at c.places-columns.ensures) in
+    c.rows.ensures c.places-rows.ensures c.columns.ensures c.places-columns.ensures in
     record {
       room = plane_room c.args.planes.now p c.loop-k.out c.loop-k.k c.loop-k-test.true (omega arith);
       rows_in = λ i. row_in c.args.planes.now p c.loop-k.k i c.requires.planes_there c.loop-k-test.true;
@@ -30,11 +27,8 @@ copy_plane-requires c =
 pub loop-k-preserved : goal.loop-k-preserved
 loop-k-preserved c =
     let s = c.args in
-    let r = c.rows.ensures in
-    let k = c.columns.ensures in
     let p = places_are c.places-rows.result c.places-columns.result (cell_in _ _ _ _ _ c.requires.answered) (search rules) (search rules)
-    (rw (r.0, r.1, r.2, r.3, r.4) at c.places-rows.ensures)
-    (rw (k.0, k.1, k.2, k.3, k.4) at c.places-columns.ensures) in
+    c.rows.ensures c.places-rows.ensures c.columns.ensures c.places-columns.ensures in
     front_row_part (cell_plane s.b s.planes.now s.x s.y s.size) c.loop-k.k (s.size * s.size) c.loop-k.invariant
     (omega (arith, plane_fits (cell_in _ _ _ _ _ c.requires.answered) c.loop-k.k c.loop-k-test.true))
     (c.copy_plane.ensures ∙ plane_is s.planes.now p c.loop-k.k)
