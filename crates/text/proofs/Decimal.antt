@@ -1,6 +1,6 @@
 -- The decimal digits of a number: its last digit behind those of its tenth, and how many there are. Assumes nothing.
 use Prim.Native.Nat.{ℕ, zero, suc, ◌+◌, ◌*◌, ◌/◌, ◌%◌, ◌^◌, ◌<◌, ◌≤◌}
-use mathlib.Core.Path.{◌≡◌, refl, ap}
+use mathlib.Core.Path.{◌≡◌, refl, ap, ◌∙◌}
 use mathlib.Core.Bool.{Bool, true, false, cond}
 use mathlib.Core.List.{List, [], ◌∷◌, ◌++◌, append_assoc}
 use native.Mathlib.Nat.{le_refl, not-suc-le-zero, pow-suc, div-lt_iff_lt-mul}
@@ -21,11 +21,33 @@ digits_same : (k n : ℕ) → n < 10 ^ suc k → digits_of (suc k) n ≡ digits_
 digits_same zero n h = rw (lt-ltb n 10 h)
 digits_same (suc k) n h = rw (digits_same k (n / 10) (tenth (suc k) n h))
 
+-- so many digits, the last ones of a number
+abbrev pub last_digits : ℕ → ℕ → List ℕ
+last_digits zero n = []
+last_digits (suc k) n = last_digits k (n / 10) ++ ((48 + n % 10) ∷ [])
+
+-- so many as it has are all that it has
+all_digits : (most k n : ℕ) → k ≡ length (digits_of most n) → last_digits k n ≡ digits_of most n
+all_digits zero k n e = rw e
+all_digits (suc most) k n e = go (ltb n 10) e (all_digits most (length (digits_of most (n / 10))) (n / 10) refl)
+  where
+    go : (t : Bool) → k ≡ length (cond t [] (digits_of most (n / 10)) ++ ((48 + n % 10) ∷ []))
+        → last_digits (length (digits_of most (n / 10))) (n / 10) ≡ digits_of most (n / 10)
+        → last_digits k n ≡ cond t [] (digits_of most (n / 10)) ++ ((48 + n % 10) ∷ [])
+    go true e i = rw e
+    go false e i =
+        let one : k ≡ suc (length (digits_of most (n / 10))) = simp length-append at e ∙ omega arith in
+        rw (one, i)
+
+pub decimal_last : (k n : ℕ) → k ≡ length (decimal n) → last_digits k n ≡ decimal n
+unfolding decimal
+decimal_last = all_digits 20
+
 pub decimal_one : (n : ℕ) → n < 10 → decimal n ≡ (48 + n % 10) ∷ []
 unfolding decimal
 decimal_one n l = rw (lt-ltb n 10 l)
 
-pub decimal_more : (n : ℕ) → 10 ≤ n → n < 2 ^ 64 → decimal n ≡ decimal (n / 10) ++ ((48 + n % 10) ∷ [])
+decimal_more : (n : ℕ) → 10 ≤ n → n < 2 ^ 64 → decimal n ≡ decimal (n / 10) ++ ((48 + n % 10) ∷ [])
 unfolding decimal
 decimal_more n l h = rw (le-ltb n 10 l, digits_same 18 (n / 10) (omega arith))
 

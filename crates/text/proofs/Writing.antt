@@ -2,7 +2,6 @@
 use Prim.Native.Nat.{ℕ, suc, ◌+◌, ◌<◌, ◌≤◌}
 use mathlib.Core.Path.{◌≡◌, refl, sym, ap, ◌∙◌}
 use mathlib.Core.List.{List, [], ◌∷◌, ◌++◌, append_assoc, append-nil}
-use native.Mathlib.Numerals.{add-one}
 use native.Mathlib.Omega.{arith}
 use lib.ListN.{length, take, drop, set, length-set, length-append}
 use lib.Seq.{length-take-le, drop_at, take-set-le, set_split}
@@ -11,10 +10,6 @@ use Rattle.text.specs.Inner.{Puts}
 
 pub puts_none : (at : ℕ) (before : List ℕ) → Puts [] at before at before
 puts_none at before = record { next_is = omega arith; placed = placed_none }
-
-pub puts_byte : (b at : ℕ) (before : List ℕ) → at < length before → Puts (b ∷ []) at before (at + 1) (set before at b)
-puts_byte b at before l =
-    record { next_is = refl; placed = record { len = length-set before at b; is = rw (add-one at) (set_split before at b l) } }
 
 -- one after the other
 pub puts_join : {a b before mid after : List ℕ} {at m next : ℕ} → Puts a at before m mid → Puts b m mid next after → m ≤ length before

@@ -71,13 +71,10 @@ pub fn put_number(out: &mut [u8], at: usize, n: u64) -> usize
 {
     let end = at + digits(n);
     let mut rest = n;
-    let mut k = end;
-    while 10 <= rest {
-        k -= 1;
+    for k in (at..end).rev() {
         out[k] = digit(rest);
         rest /= 10;
     }
-    out[at] = digit(rest);
     end
 }
 
