@@ -1,11 +1,11 @@
 -- The blocks of neighbouring points, gathered value by value. Assumes nothing.
-use Prim.Native.Nat.{ℕ, ◌+◌, ◌*◌, ◌/◌, ◌%◌, ◌≤◌, ◌<◌}
-use mathlib.Core.Path.{◌≡◌, ap, sym, ◌∙◌}
+use Prim.Native.Nat.{ℕ, ◌+◌, ◌*◌, ◌≤◌, ◌<◌}
+use mathlib.Core.Path.{◌≡◌}
 use mathlib.Core.List.{List, []}
 use mathlib.Core.Logic.{⊎_elim}
 use native.Mathlib.Nat.{eq-or-lt_of_le}
 use native.Mathlib.Omega.{arith}
-use lib.Arith.{digits_lt, digits_div, digits_mod}
+use lib.Arith.{digits_lt}
 use lib.Ieee.{Float, nan}
 use lib.ListN.{length, get_or, set, length-set}
 use Rattle.std.proofs.lemmas.Nat.{same_from_place}

@@ -73,7 +73,7 @@ impl Blocks<'_> {
     }
 
     // The m points from j on of row i of narrowed plane k.
-    #[tactic(auto, using(crate::proofs::Block::reached, crate::proofs::Block::medians_are))]
+    #[tactic(auto, using(crate::proofs::Block::reached, crate::proofs::Block::run_placed))]
     fn group(&self, k: usize, i: usize, j: usize, m: usize, x: &mut Lists, out: &mut [f32])
         requires points_in { PointsIn (points self.now) k i j m }
         requires room { (points self.now).width ≤ length out.old }
@@ -82,7 +82,7 @@ impl Blocks<'_> {
         let f = self.factor.value;
         let at = k * (self.height * self.width) + (i * f * self.width + j * f);
         self.gather(at, m, x);
-        select::medians(f * f, x, m, out, j);
+        select::medians(&mut x[..f * f], &mut out[j..j + m]);
     }
 
     // Row i of narrowed plane k, so many points at once as there are lists.

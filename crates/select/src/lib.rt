@@ -3,8 +3,7 @@
 // values, so that a compiler can work on all lists at once. Definitions: specs/Inner. The law: proofs/Passes.
 #![tactic(auto)]
 
-ghost use Rattle.std.specs.Prelude.{ℕ, ◌+◌, ◌<◌, ◌≤◌, length};
-ghost use Rattle.lists.specs.Inner.{Placed};
+ghost use Rattle.std.specs.Prelude.{◌≡◌, ℕ, ◌+◌, ◌<◌, ◌≤◌, length};
 ghost use Rattle.lists.specs.Tab.{tab};
 ghost use Rattle.select.specs.Inner.{list_count, list_of, UnitsIn, median_of, chosen, Started, Sifted, DroppedEach, Selected};
 
@@ -62,35 +61,39 @@ fn pass(x: &mut [[f32; LIST_COUNT]], s: usize, e: usize)
     }
 }
 
-// Leaves one value or two at the end of the first n of each list; the larger is the middle one of the n, if they are units.
-fn select(n: usize, x: &mut [[f32; LIST_COUNT]])
-    requires { (0 < n) × (n ≤ length x.old) }
-    ensures { Selected n x.old x.new }
+// Leaves one value or two at the end of each list; the larger is the middle one of all, if they are units.
+fn select(x: &mut [[f32; LIST_COUNT]])
+    requires { 0 < length x.old }
+    ensures { Selected (length x.old) x.old x.new }
 {
+    let n = x.len();
     for t in 0..(n - 1) / 2 {
         pass(x, 2 * t, n / 2 + 2 + t);
     }
 }
 
-// What is left of n values in the first m lists, to `out` from j on: the larger where two are left.
-fn put(n: usize, x: &[[f32; LIST_COUNT]], m: usize, out: &mut [f32], j: usize)
-    requires { (0 < n) × (n ≤ length x.now) × (m ≤ list_count) × (j + m ≤ length out.old) }
-    ensures { Placed (tab m (λ l. chosen n (list_of x.now l))) j out.old out.new }
+// What is left in the first lists, one for each entry of `out`: the larger where two are left.
+#[tactic(auto, using(lists::proofs::Front::front_all, lists::proofs::Tab::length_tab_from))]
+fn put(x: &[[f32; LIST_COUNT]], out: &mut [f32])
+    requires { (0 < length x.now) × (length out.old ≤ list_count) }
+    ensures { out.new ≡ tab (length out.old) (λ l. chosen (length x.now) (list_of x.now l)) }
 {
+    let n = x.len();
     let p = 2 * ((n - 1) / 2);
-    for l in 0..m {
+    for l in 0..out.len() {
         let a = x[p][l];
         let b = x[n - 1][l];
-        out[j + l] = binary32::larger(a, b);
+        out[l] = binary32::larger(a, b);
     }
 }
 
-// The medians of the first m lists, n units each, to `out` from j on. The lists are free afterwards.
-pub fn medians(n: usize, x: &mut [[f32; LIST_COUNT]], m: usize, out: &mut [f32], j: usize)
-    requires room { (0 < n) × (n ≤ length x.old) × (m ≤ list_count) × (j + m ≤ length out.old) }
-    requires units { (l : ℕ) → l < m → UnitsIn 0 n (list_of x.old l) }
-    ensures { Placed (tab m (λ l. median_of n (list_of x.old l))) j out.old out.new }
+// The medians of the first lists, of units, one for each entry of `out`. The lists are free afterwards.
+#[tactic(auto, using(lists::proofs::Tab::tab_same))]
+pub fn medians(x: &mut [[f32; LIST_COUNT]], out: &mut [f32])
+    requires room { (0 < length x.old) × (length out.old ≤ list_count) }
+    requires units { (l : ℕ) → l < length out.old → UnitsIn 0 (length x.old) (list_of x.old l) }
+    ensures { out.new ≡ tab (length out.old) (λ l. median_of (length x.old) (list_of x.old l)) }
 {
-    select(n, x);
-    put(n, x, m, out, j);
+    select(x);
+    put(x, out);
 }

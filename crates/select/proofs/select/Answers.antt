@@ -1,4 +1,4 @@
-use Rattle.std.proofs.Common.{◌≡◌, ◌-◌, ◌/◌, arith, rules}
+use Rattle.std.proofs.Common.{◌≡◌, ◌-◌, ◌/◌, length, arith, rules}
 use Rattle.select.proofs.Passes.{left_none, left_more, left_all}
 use Rattle.select.proofs.select.Goals as goal
 
@@ -12,5 +12,5 @@ loop-t-preserved c = λ l h u.
 
 pub returns : goal.returns
 returns c = λ l h u.
-    let all : c.loop-t.t ≡ (c.args.n - 1) / 2 = omega arith in
-    left_all c.requires.0 u (rw all at (c.loop-t.invariant l h u))
+    let all : c.loop-t.t ≡ (length c.args.x.now - 1) / 2 = omega arith in
+    left_all c.requires u (rw all at (c.loop-t.invariant l h u))
