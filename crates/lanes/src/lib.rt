@@ -197,8 +197,8 @@ impl Picture<'_> {
         ensures { result ≡ score (points self.now.down self.now.across self.now.edges.now) self.now.from self.now.to (at c k) }
     {
         let mut v = Lanes::start(k);
-        for t in 0..self.to - self.from {
-            let at = (self.from + (t + 1)) * self.down + c * self.across;
+        for row in self.from..self.to {
+            let at = (row + 1) * self.down + c * self.across;
             v = v.advanced(&Row {
                 edges: self.edges,
                 at,
@@ -222,8 +222,8 @@ impl Picture<'_> {
             d: [first.d; 4096],
             e: [first.e; 4096],
         };
-        for t in 0..self.to - self.from {
-            let at = (self.from + (t + 1)) * self.down + c;
+        for row in self.from..self.to {
+            let at = (row + 1) * self.down + c;
             // the compiler packs this loop
             for i in 0..out.len() {
                 let row = Row {
