@@ -10,7 +10,6 @@ use lib.Dec.{eqb}
 use Rattle.lists.specs.Picture.{bit, points}
 use Rattle.lists.proofs.Picture.{bit_le}
 use Rattle.lanes.specs.declared.Lanes.{Lanes}
-use Rattle.lanes.specs.Walk.{apart}
 use Rattle.lanes.specs.Score.{Place, at, onward, least_cost, on_strip, score}
 use Rattle.lanes.specs.Inner.{LanesHold, Below, unset, Advanced, Walked}
 use Rattle.lanes.proofs.Walks.{least_cost_stays}
@@ -18,12 +17,6 @@ use Rattle.lanes.proofs.Walks.{least_cost_stays}
 -- a point adds at most 1 to a cost
 pub below_more : (e : List ℕ) (o across n : ℕ) (cost : ℕ → ℕ) → Below n cost → Below (n + 1) (λ j. cost j + unset e (o + j * across))
 below_more e o across n cost l j h = omega (arith, l j h, bit_le (not (eqb (get_or e (o + j * across) 0) 1)))
-
--- before the first step
-pub walked_start : (E : ℕ → ℕ → Bool) (from : ℕ) (p : Place) {v : Lanes} → LanesHold 5 (λ j. apart j p.lane) v → Walked E from p from v
-walked_start E from p h =
-    let none : from - from ≡ 0 = omega arith in
-    record { lanes = rw none h }
 
 -- what the target lane holds after the last step is 5 more than the score
 pub lane_score : {E : ℕ → ℕ → Bool} {from row : ℕ} {p : Place} {v : Lanes} (to x : ℕ) → Walked E from p row v → row ≡ to →

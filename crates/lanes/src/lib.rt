@@ -226,12 +226,11 @@ impl Picture<'_> {
             let at = (row + 1) * self.down + c;
             // the compiler packs this loop
             for i in 0..out.len() {
-                let row = Row {
+                let v = st.at(i).advanced(&Row {
                     edges: self.edges,
                     at: at + i,
                     across: 1,
-                };
-                let v = st.at(i).advanced(&row);
+                });
                 st.put(i, v);
             }
         }

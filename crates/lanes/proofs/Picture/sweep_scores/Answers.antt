@@ -1,11 +1,12 @@
 use Rattle.std.proofs.Common.{ℕ, arith, rules, ◌+◌, ◌≡◌, ◌∙◌, get_or, replicate}
 use Rattle.std.proofs.lemmas.List.{get_or-replicate}
+use native.Mathlib.Nat.{sub_self}
 use borrow.Author.Count.{below_more}
 use Rattle.lists.specs.Picture.{points}
 use Rattle.lists.proofs.Tab.{tab_same}
 use Rattle.lanes.specs.Score.{at}
 use Rattle.lanes.specs.Inner.{Walked, lanes_of}
-use Rattle.lanes.proofs.States.{walked_start, row_more, lane_score}
+use Rattle.lanes.proofs.States.{row_more, lane_score}
 use Rattle.lanes.proofs.Picture.sweep_scores.Goals as goal
 
 pub loop-row-init : goal.loop-row-init
@@ -13,7 +14,7 @@ loop-row-init c =
     record {
       strip = λ i h.
           let held : (x : ℕ) → get_or (replicate 4096 x) i 0 ≡ x = λ x. get_or-replicate 4096 i x 0 (omega arith) in
-          simp held (walked_start _ _ _ c.start-first.ensures);
+          record { lanes = simp (held, sub_self) c.start-first.ensures };
     }
 
 pub loop-i-preserved : goal.loop-i-preserved
