@@ -1,6 +1,6 @@
 -- For the code alone: the lanes of a strip while it is walked down, and strips side by side, all with target lane 2. No contract of an
 -- entry point reaches these.
-use Rattle.std.specs.Prelude.{ℕ, ◌+◌, ◌*◌, ◌≤◌, ◌<◌, Bool, not, ◌≡◌, List, eqb, get_or}
+use Rattle.std.specs.Prelude.{ℕ, ◌+◌, ◌-◌, ◌*◌, ◌≤◌, ◌<◌, Bool, not, ◌≡◌, List, eqb, get_or}
 use Rattle.lists.specs.Picture.{bit}
 use Rattle.lanes.specs.declared.Lanes.{Lanes}
 use Rattle.lanes.specs.declared.Strips.{Strips}
@@ -38,9 +38,9 @@ Advanced e o across v w =
     (n : ℕ) (cost : ℕ → ℕ) → Below n cost → LanesHold n cost v →
     LanesHold (n + 1) (onward (λ j. cost j + unset e (o + j * across))) w
 
--- the lanes of a place's strip after t steps: 5 and the steps, less the least cost
-pub record Walked (E : ℕ → ℕ → Bool) (from : ℕ) (p : Place) (t : ℕ) (v : Lanes) : Type 0 where
-  pub lanes : LanesHold (t + 5) (least_cost (on_strip E from p) p.lane t) v
+-- the lanes of a place's strip walked down to row `row`: 5 and the steps, less the least cost
+pub record Walked (E : ℕ → ℕ → Bool) (from : ℕ) (p : Place) (row : ℕ) (v : Lanes) : Type 0 where
+  pub lanes : LanesHold (row - from + 5) (least_cost (on_strip E from p) p.lane (row - from)) v
 
 -- the scores of m strips from column c on, all with target lane 2
 abbrev pub swept_scores : (ℕ → ℕ → Bool) → ℕ → ℕ → ℕ → ℕ → List ℕ
@@ -56,6 +56,6 @@ pub record Stored (before : Strips) (i : ℕ) (v : Lanes) (after : Strips) : Typ
   pub new : lanes_of after i ≡ v
   pub old : (j : ℕ) → (j ≡ i → ⊥) → lanes_of after j ≡ lanes_of before j
 
--- the m strips from column c on, t rows below row `from`, all with target lane 2
-pub record Swept (E : ℕ → ℕ → Bool) (from c m t : ℕ) (st : Strips) : Type 0 where
-  pub strip : (i : ℕ) → i < m → Walked E from (at (c + i) 2) t (lanes_of st i)
+-- the m strips from column c on, walked down to row `row`, all with target lane 2
+pub record Swept (E : ℕ → ℕ → Bool) (from c m row : ℕ) (st : Strips) : Type 0 where
+  pub strip : (i : ℕ) → i < m → Walked E from (at (c + i) 2) row (lanes_of st i)

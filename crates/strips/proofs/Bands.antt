@@ -1,5 +1,5 @@
 -- Bands of strips: a band lies within the picture, and its scores go on where those before it end. Assumes nothing.
-use Prim.Native.Nat.{ℕ, ◌+◌, ◌-◌, ◌*◌, ◌≤◌, ◌<◌, min}
+use Prim.Native.Nat.{ℕ, ◌+◌, ◌-◌, ◌*◌, ◌≤◌, ◌<◌}
 use mathlib.Core.Path.{◌≡◌, ap, ◌∙◌}
 use mathlib.Core.List.{List}
 use native.Mathlib.Nat.{mul-le-mul_right, add-mul}
@@ -18,15 +18,14 @@ block_in from to r m across last n f h l =
     omega (arith, mul-le-mul_right across h, add-mul (r + m + 3) 1 across, add-mul r (m + 4) across)
 
 module _ {A : Type 0} where
-  -- the next w entries of n, or as many as are left, by a rule g that counts from their start
-  pub front_band : (f : ℕ → A) {g : ℕ → A} {i n end : ℕ} (w : ℕ) {lent s last : List A} → AtFront (tab (min i n) f) lent s → length s ≡ n →
-      i < n → end ≡ min (i + w) n → last ≡ tab (length (mid_of i (end - i) s)) g → ((j : ℕ) → g j ≡ f (i + j)) →
-      AtFront (tab (min (i + w) n) f) lent (put_mid i (end - i) s last)
-  front_band f {g} {i} {n} {end} w {lent} {s} {last} h l b q e same =
+  -- the entries from i to `end` by a rule g that counts from their start
+  pub front_band : (f : ℕ → A) {g : ℕ → A} {i end next : ℕ} {lent s last : List A} → AtFront (tab i f) lent s → i ≤ end → end ≤ length s →
+      end ≡ next → last ≡ tab (length (mid_of i (end - i) s)) g → ((j : ℕ) → g j ≡ f (i + j)) →
+      AtFront (tab next f) lent (put_mid i (end - i) s last)
+  front_band f {g} {i} {end} {next} {lent} {s} {last} h l b q e same =
       let m = end - i in
-      let part : length (mid_of i m s) ≡ m = mid_len i end s (omega arith) in
+      let part : length (mid_of i m s) ≡ m = mid_len i end s b in
       let is : last ≡ tab m (λ j. f (i + j)) = rw part at e ∙ tab_same m g (λ j. f (i + j)) (λ j k. same j) in
       let long : length last ≡ m = ap length is ∙ length_tab_from 0 m _ in
-      let a : min i n ≡ i = omega arith in
-      let z : min (i + w) n ≡ i + m = omega arith in
-      rw (z, tab_add i m f, ← is) (placed_front (rw a at h) (length_tab_from 0 i f) (placed_part i m s last part long))
+      let z : next ≡ i + m = omega arith in
+      rw (z, tab_add i m f, ← is) (placed_front h (length_tab_from 0 i f) (placed_part i m s last part long))

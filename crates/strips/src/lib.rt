@@ -84,16 +84,16 @@ impl Block<'_> {
         }
     }
 
-    // `width` rows of `height` bytes, eight at a time: the compiler unrolls that, and wide pictures stay fast.
+    // `width` rows of `height` bytes, eight at a time after those left over: the compiler unrolls that, and wide pictures stay fast.
     fn turn(&self, t: &mut [u8])
         requires { self.now.width * self.now.height ≤ length t.old }
         ensures { Turned self.now.edges.now self.now.first self.now.stride self.now.width self.now.height self.now.height t.new }
     {
-        let eights = self.height / 8;
-        for k in 0..eights {
-            self.turn_rows(8 * k, 8, t);
+        let rest = self.height % 8;
+        self.turn_rows(0, rest, t);
+        for i in (rest..self.height).step_by(8) {
+            self.turn_rows(i, 8, t);
         }
-        self.turn_rows(8 * eights, self.height % 8, t);
     }
 }
 
@@ -131,8 +131,7 @@ fn banded_scores(p: &Picture, r: usize, turned: &mut [u8], out: &mut [u32])
         × ((p.now.to - p.now.from + 1) * (length out.old + 4) ≤ length turned.old) }
     ensures { out.new ≡ swept_scores (points 1 p.now.across p.now.edges.now) p.now.from p.now.to r (length out.old) }
 {
-    for k in 0..out.len().div_ceil(128) {
-        let i = 128 * k;
+    for i in (0..out.len()).step_by(128) {
         let end = (i + 128).min(out.len());
         band_scores(p, r + i, turned, &mut out[i..end]);
     }

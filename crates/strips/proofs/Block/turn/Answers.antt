@@ -1,14 +1,14 @@
-use Rattle.std.proofs.Common.{arith, ◌+◌, ◌*◌, ◌≡◌, ◌%◌, ◌/◌}
+use Rattle.std.proofs.Common.{rules, arith, zero-add, ◌+◌, ◌≡◌}
 use Rattle.strips.proofs.Turning.{turned_more}
 use Rattle.strips.proofs.Block.turn.Goals as goal
 
-pub loop-k-preserved : goal.loop-k-preserved
-loop-k-preserved c =
-    let e : 8 * c.loop-k.k + 8 ≡ 8 * (c.loop-k.k + 1) = omega arith in
-    rw e at (turned_more c.loop-k.invariant c.turn_rows.ensures)
+pub loop-i-init : goal.loop-i-init
+loop-i-init c = (search rules, omega arith, record { at = λ j d h q. rw zero-add at (c.turn_rows.ensures.new j d h q) })
 
-pub returns : goal.returns
-returns c =
-    let k : c.loop-k.k ≡ c.args.self.now.height / 8 = omega arith in
-    let e : 8 * (c.args.self.now.height / 8) + c.args.self.now.height % 8 ≡ c.args.self.now.height = omega arith in
-    rw e at (turned_more (rw k at c.loop-k.invariant) c.turn_rows-2.ensures)
+pub loop-i-preserved : goal.loop-i-preserved
+loop-i-preserved c = (omega arith, omega arith, turned_more c.loop-i.invariant.2 c.turn_rows-in-loop-i.ensures)
+
+pub returns-2 : goal.returns-2
+returns-2 c =
+    let e : c.loop-i.i + 8 ≡ c.args.self.now.height = omega arith in
+    rw e at (turned_more c.loop-i.invariant.2 c.turn_rows-in-loop-i.ensures)
