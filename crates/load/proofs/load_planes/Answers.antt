@@ -1,5 +1,5 @@
 use Prim.Native.Nat.{◌*◌}
-use mathlib.Core.Path.{◌≡◌, ◌∙◌}
+use mathlib.Core.Path.{◌≡◌, refl, ◌∙◌}
 use native.Mathlib.Omega.{arith}
 use lib.Ieee.{nan}
 use Rattle.load.specs.Load.{most_byte}
@@ -10,13 +10,12 @@ use Rattle.load.proofs.load_planes.Goals as goal
 pub loop-i-preserved : goal.loop-i-preserved
 loop-i-preserved c =
     let a = c.args in
-    let pixel = c.pixel-v.ensures in
     let value = value_is most_byte a.height a.width a.pixels.now in (
       omega arith,
       laid_more nan _ _ c.loop-i.invariant.1 c.loop-i-test.true c.requires.room.1
-          (c.level.ensures ∙ value 0 c.loop-i.i _ _ pixel.red_in (omega arith))
-          (c.level-in-loop-i.ensures ∙ value 1 c.loop-i.i _ _ pixel.green_in (omega arith))
-          (c.level-in-loop-i-2.ensures ∙ value 2 c.loop-i.i _ _ pixel.blue_in (omega arith)),
+          (c.level.ensures ∙ value 0 c.loop-i.i _ _ refl (omega arith))
+          (c.level-in-loop-i.ensures ∙ value 1 c.loop-i.i _ _ refl (omega arith))
+          (c.level-in-loop-i-2.ensures ∙ value 2 c.loop-i.i (4 * c.loop-i.i) _ refl (omega arith)),
     )
 
 pub returns : goal.returns
