@@ -49,8 +49,8 @@ fn load_planes(height: usize, width: usize, pixels: &[u8], planes: &mut [f32])
     ensures { AtFront (packed (shown most_byte height width pixels.now)) planes.old planes.new }
 {
     let n = height * width;
-    for i in 0..n {
-        let (blue, green, red) = (pixels[4 * i], pixels[4 * i + 1], pixels[4 * i + 2]);
+    let (pixels, _) = pixels.as_chunks::<4>();
+    for (i, &[blue, green, red, _]) in pixels[..n].iter().enumerate() {
         planes[i] = level(red);
         planes[n + i] = level(green);
         planes[2 * n + i] = level(blue);
