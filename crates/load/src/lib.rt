@@ -8,7 +8,6 @@ ghost use Rattle.board.specs.Screen.{packed};
 ghost use Rattle.load.specs.Load as Spec;
 ghost use Rattle.refusal.specs.Refusal.{answer_of};
 ghost use Rattle.load.specs.Load.{most_byte, shown, load_answer, loaded_of, LoadGives};
-ghost use Rattle.load.specs.Inner.{Bytes, PixelAt};
 
 use board::Board;
 use refusal::Refusal;
@@ -36,20 +35,6 @@ impl From<Result<Board, Refusal>> for Loaded {
     }
 }
 
-// The four bytes of a pixel as one number: in a function of its own it becomes one load of 32 bits.
-fn joined(b: u8, g: u8, r: u8, a: u8) -> u32
-    ensures { Bytes result b g r }
-{
-    b as u32 + 256 * (g as u32) + 65536 * (r as u32) + 16777216 * (a as u32)
-}
-
-fn pixel(pixels: &[u8], at: usize) -> u32
-    requires { at + 3 < length pixels.now }
-    ensures { PixelAt result pixels.now at }
-{
-    joined(pixels[at], pixels[at + 1], pixels[at + 2], pixels[at + 3])
-}
-
 #[tactic(auto, unfolding(crate::specs::Load::level), using(crate::proofs::Units::byte_top))]
 fn level(b: u8) -> f32
     ensures { result ≡ Spec.level most_byte b }
@@ -64,11 +49,11 @@ fn load_planes(height: usize, width: usize, pixels: &[u8], planes: &mut [f32])
     ensures { AtFront (packed (shown most_byte height width pixels.now)) planes.old planes.new }
 {
     let n = height * width;
-    for i in 0..n {
-        let v = pixel(pixels, 4 * i);
-        planes[i] = level((v / 65536 % 256) as u8);
-        planes[n + i] = level((v / 256 % 256) as u8);
-        planes[2 * n + i] = level((v % 256) as u8);
+    let (pixels, _) = pixels.as_chunks::<4>();
+    for (i, &[blue, green, red, _]) in pixels[..n].iter().enumerate() {
+        planes[i] = level(red);
+        planes[n + i] = level(green);
+        planes[2 * n + i] = level(blue);
     }
 }
 

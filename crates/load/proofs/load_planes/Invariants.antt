@@ -1,6 +1,5 @@
 -- `load::load_planes` meets its contract. The invariant: the first i places of each plane have their value.
--- What is left of the places falls.
-use Prim.Native.Nat.{◌-◌, ◌≤◌}
+use Prim.Native.Nat.{◌≤◌}
 use lib.Ieee.{nan}
 use Rattle.load.specs.Load.{most_byte}
 use Rattle.load.proofs.Planes.{Laid}
@@ -9,6 +8,3 @@ use Rattle.load.proofs.load_planes.Given as goal
 
 abbrev pub invariant-loop-i : goal.invariant-loop-i
 invariant-loop-i l = (l.i ≤ l.n) × Laid nan (shown_at most_byte l.height l.width l.pixels) l.n l.i l.initial.planes l.planes
-
-abbrev pub decreases-loop-i : goal.decreases-loop-i
-decreases-loop-i l = l.n - l.i
