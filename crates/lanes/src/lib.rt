@@ -163,6 +163,16 @@ impl Strips {
         self.e[i] = v.e;
     }
 
+    // The first m strips before the first step.
+    fn starts(&mut self, m: usize)
+        requires { m ≤ 4096 }
+        ensures { (i : ℕ) → i < m → LanesHold 5 (λ j. apart j 2) (lanes_of self.new i) }
+    {
+        for i in 0..m {
+            self.put(i, Lanes::start(2));
+        }
+    }
+
     // What the middle lanes hold above 5.
     fn scores(&self, out: &mut [u32])
         requires { (length out.old ≤ 4096) × ((i : ℕ) → i < length out.old → 5 ≤ get_or self.now.c i 0) }
@@ -214,14 +224,14 @@ impl Picture<'_> {
         requires { (self.now.across ≡ 1) × (length out.old ≤ 4096) × (c + length out.old + 3 ≤ self.now.last) }
         ensures { out.new ≡ swept_scores (points self.now.down 1 self.now.edges.now) self.now.from self.now.to c (length out.old) }
     {
-        let first = Lanes::start(2);
         let mut st = Strips {
-            a: [first.a; 4096],
-            b: [first.b; 4096],
-            c: [first.c; 4096],
-            d: [first.d; 4096],
-            e: [first.e; 4096],
+            a: [0; 4096],
+            b: [0; 4096],
+            c: [0; 4096],
+            d: [0; 4096],
+            e: [0; 4096],
         };
+        st.starts(out.len());
         for row in self.from..self.to {
             let at = (row + 1) * self.down + c;
             // the compiler packs this loop

@@ -1,6 +1,4 @@
-use Rattle.std.proofs.Common.{ℕ, arith, rules, ◌+◌, ◌≡◌, ◌∙◌, get_or, replicate}
-use Rattle.std.proofs.lemmas.List.{get_or-replicate}
-use native.Mathlib.Nat.{sub_self}
+use Rattle.std.proofs.Common.{arith, rules, ◌+◌, ◌∙◌}
 use borrow.Author.Count.{below_more}
 use Rattle.lists.specs.Picture.{points}
 use Rattle.lists.proofs.Tab.{tab_same}
@@ -8,14 +6,6 @@ use Rattle.lanes.specs.Score.{at}
 use Rattle.lanes.specs.Inner.{Walked, lanes_of}
 use Rattle.lanes.proofs.States.{row_more, lane_score}
 use Rattle.lanes.proofs.Picture.sweep_scores.Goals as goal
-
-pub loop-row-init : goal.loop-row-init
-loop-row-init c =
-    record {
-      strip = λ i h.
-          let held : (x : ℕ) → get_or (replicate 4096 x) i 0 ≡ x = λ x. get_or-replicate 4096 i x 0 (omega arith) in
-          record { lanes = simp (held, sub_self) c.start-first.ensures };
-    }
 
 pub loop-i-preserved : goal.loop-i-preserved
 loop-i-preserved c =
