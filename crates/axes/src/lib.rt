@@ -7,12 +7,12 @@ ghost use Rattle.std.specs.Prelude.{◌++◌, ◌+◌, ◌-◌, ◌*◌, ◌≤�
 ghost use Rattle.lists.specs.Front.{AtFront};
 ghost use Rattle.lists.specs.Picture.{points};
 ghost use Rattle.strips.specs.Strip.{column_scores, row_scores};
-ghost use Rattle.strips.specs.Inner.{place_count, Scorable};
+ghost use Rattle.strips.specs.Inner.{place_count};
 ghost use Rattle.axes.specs.Inner.{both_counts, RoomFor, ReadsAxes};
 
-use board::Bounds;
 use lines::Scores;
 use reading::{Gap, Reading};
+use strips::Region;
 
 // What the columns and the rows read as.
 #[derive(Clone, Copy)]
@@ -22,30 +22,32 @@ pub struct Readings {
 }
 
 // Column scores, then row scores, to the front of `scores`. `turned` is scratch.
-fn score_all(edges: &[u8], stride: usize, b: Bounds, turned: &mut [u8], scores: &mut [u32])
-    requires scorable { Scorable edges.now stride b × (both_counts b ≤ length scores.old) }
-    requires turned_room { (b.c_2 - b.c_1 + 1) * place_count b.r_1 b.r_2 ≤ length turned.old }
-    ensures { let E = points stride 1 edges.now in
+fn score_all(region: &Region, turned: &mut [u8], scores: &mut [u32])
+    requires scores_room { both_counts region.now.bounds ≤ length scores.old }
+    requires turned_room { let b = region.now.bounds in
+        (b.c_2 - b.c_1 + 1) * place_count b.r_1 b.r_2 ≤ length turned.old }
+    ensures { let E = points region.now.stride 1 region.now.edges.now in
+        let b = region.now.bounds in
         AtFront (column_scores E b ++ row_scores E b) scores.old scores.new }
 {
-    strips::column_scores(edges, stride, b, scores);
+    let b = region.bounds;
+    region.column_scores(scores);
     let from = strips::place_count(b.c_1, b.c_2);
-    strips::row_scores(edges, stride, b, turned, &mut scores[from..]);
+    region.row_scores(turned, &mut scores[from..]);
 }
 
 // The scores of both axes, and their readings. `turned` and `words` are scratch.
 pub fn read_axes(
-    edges: &[u8],
-    stride: usize,
-    b: Bounds,
+    region: &Region,
     scores: &mut [u32],
     turned: &mut [u8],
     words: &mut [u32],
 ) -> Readings
-    requires { Scorable edges.now stride b × RoomFor b (length scores.old) (length turned.old) (length words.old) }
-    ensures { ReadsAxes (points stride 1 edges.now) b scores.old result scores.new }
+    requires { RoomFor region.now.bounds (length scores.old) (length turned.old) (length words.old) }
+    ensures { ReadsAxes (points region.now.stride 1 region.now.edges.now) region.now.bounds scores.old result scores.new }
 {
-    score_all(edges, stride, b, turned, scores);
+    let b = region.bounds;
+    score_all(region, turned, scores);
     let across = strips::place_count(b.c_1, b.c_2);
     let end = across + strips::place_count(b.r_1, b.r_2);
     let both = &scores[..];

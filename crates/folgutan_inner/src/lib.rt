@@ -23,6 +23,7 @@ ghost use Rattle.rank.specs.Rank.{self, entry};
 ghost use Rattle.rank.specs.Inner.{count_at_most};
 
 use board::{Board, Bounds, Factor};
+use strips::Region;
 
 #[unsafe(no_mangle)]
 pub extern "C" fn folgutan_inner_unit(x: f32) -> bool
@@ -140,7 +141,12 @@ pub extern "C" fn folgutan_inner_column_scores(
     requires { Scorable edges.now stride b × (place_count b.c_1 b.c_2 ≤ length out.old) }
     ensures { AtFront (column_scores (points stride 1 edges.now) b) out.old out.new }
 {
-    strips::column_scores(edges, stride, b, out)
+    let region = Region {
+        edges,
+        stride,
+        bounds: b,
+    };
+    region.column_scores(out)
 }
 
 #[unsafe(no_mangle)]
@@ -156,7 +162,12 @@ pub extern "C" fn folgutan_inner_row_scores(
         × (place_count b.r_1 b.r_2 ≤ length out.old) }
     ensures { AtFront (row_scores (points stride 1 edges.now) b) out.old out.new }
 {
-    strips::row_scores(edges, stride, b, turned, out)
+    let region = Region {
+        edges,
+        stride,
+        bounds: b,
+    };
+    region.row_scores(turned, out)
 }
 
 #[unsafe(no_mangle)]

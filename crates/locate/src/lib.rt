@@ -21,6 +21,7 @@ use board::{Board, Bounds, Factor, Spacing};
 use narrowings::Narrowed;
 use reading::{Gap, Reading};
 use refusal::Refusal;
+use strips::Region;
 
 // A record and the answer, both pitches in quarters, both counts of votes, and how often the screen was narrowed.
 #[repr(C)]
@@ -196,7 +197,12 @@ fn read_from(
     let column = l.width - 2;
     let n = row * column;
     let wide = bounds::widen(&edges[..n], column, row, column, l.bounds);
-    let axes = axes::read_axes(&edges[..n], column, wide, scores, scratch_u8, scratch_u32);
+    let region = Region {
+        edges: &edges[..n],
+        stride: column,
+        bounds: wide,
+    };
+    let axes = axes::read_axes(&region, scores, scratch_u8, scratch_u32);
     joined(
         b.resized(l.height, l.width),
         l.narrowed,

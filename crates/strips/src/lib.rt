@@ -12,6 +12,15 @@ ghost use Rattle.strips.specs.Inner.{place_count, Scorable, two_scores, bordered
 use board::Bounds;
 use lanes::Picture;
 
+// Bounds in a picture of marks whose rows stand `stride` apart, wide and high enough to be scored.
+#[derive(Clone, Copy)]
+pub struct Region<'a> {
+    pub edges: &'a [u8],
+    pub stride: usize,
+    pub bounds: Bounds,
+    pub ghost scorable: { Scorable edges.now stride bounds },
+}
+
 // Target lanes k and k + 1 of one strip, on either axis, into entries i and i + 1.
 fn two_scores(p: &Picture, c: usize, k: u16, i: usize, out: &mut [u32])
     requires { (c + 4 ≤ p.now.last) × (k ≤ 3) × (i + 1 < length out.old) }
@@ -38,25 +47,6 @@ fn border_scores(p: &Picture, c_1: usize, last: usize, out: &mut [u32])
 {
     two_scores(p, c_1, 0, 0, out);
     two_scores(p, p.last - 4, 3, last, out);
-}
-
-// The scores of columns c_1 to c_2 over rows r_1 to r_2; the points lie rows first, `stride` to a row.
-#[tactic(auto, using(crate::proofs::Scores::count_least, crate::proofs::Scores::count_most))]
-pub fn column_scores(edges: &[u8], stride: usize, b: Bounds, out: &mut [u32])
-    requires { Scorable edges.now stride b × (place_count b.c_1 b.c_2 ≤ length out.old) }
-    ensures { AtFront (column_scores (points stride 1 edges.now) b) out.old out.new }
-{
-    let p = Picture {
-        edges,
-        down: stride,
-        across: 1,
-        from: b.r_1,
-        to: b.r_2,
-        last: b.c_2,
-    };
-    let last = place_count(b.c_1, b.c_2) - 2;
-    p.sweep_scores(b.c_1, &mut out[2..last]);
-    border_scores(&p, b.c_1, last, out);
 }
 
 // A block of a picture: `height` rows of `width` bytes, `stride` apart, the first at `first`.
@@ -137,22 +127,45 @@ fn banded_scores(p: &Picture, r: usize, turned: &mut [u8], out: &mut [u32])
     }
 }
 
-// The scores of rows r_1 to r_2 over columns c_1 to c_2: the columns of the flipped picture. `turned` is scratch.
-#[tactic(auto, using(crate::proofs::Scores::count_least, crate::proofs::Scores::count_most))]
-pub fn row_scores(edges: &[u8], stride: usize, b: Bounds, turned: &mut [u8], out: &mut [u32])
-    requires { Scorable edges.now stride b × ((b.c_2 - b.c_1 + 1) * place_count b.r_1 b.r_2 ≤ length turned.old)
-        × (place_count b.r_1 b.r_2 ≤ length out.old) }
-    ensures { AtFront (row_scores (points stride 1 edges.now) b) out.old out.new }
-{
-    let p = Picture {
-        edges,
-        down: 1,
-        across: stride,
-        from: b.c_1,
-        to: b.c_2,
-        last: b.r_2,
-    };
-    let last = place_count(b.r_1, b.r_2) - 2;
-    banded_scores(&p, b.r_1, turned, &mut out[2..last]);
-    border_scores(&p, b.r_1, last, out);
+impl Region<'_> {
+    // The scores of columns c_1 to c_2 over rows r_1 to r_2; the points lie rows first, `stride` to a row.
+    #[tactic(auto, using(crate::proofs::Scores::count_least, crate::proofs::Scores::count_most))]
+    pub fn column_scores(&self, out: &mut [u32])
+        requires { place_count self.now.bounds.c_1 self.now.bounds.c_2 ≤ length out.old }
+        ensures { AtFront (column_scores (points self.now.stride 1 self.now.edges.now) self.now.bounds) out.old out.new }
+    {
+        let b = self.bounds;
+        let p = Picture {
+            edges: self.edges,
+            down: self.stride,
+            across: 1,
+            from: b.r_1,
+            to: b.r_2,
+            last: b.c_2,
+        };
+        let last = place_count(b.c_1, b.c_2) - 2;
+        p.sweep_scores(b.c_1, &mut out[2..last]);
+        border_scores(&p, b.c_1, last, out);
+    }
+
+    // The scores of rows r_1 to r_2 over columns c_1 to c_2: the columns of the flipped picture. `turned` is scratch.
+    #[tactic(auto, using(crate::proofs::Scores::count_least, crate::proofs::Scores::count_most))]
+    pub fn row_scores(&self, turned: &mut [u8], out: &mut [u32])
+        requires { let b = self.now.bounds in
+            ((b.c_2 - b.c_1 + 1) * place_count b.r_1 b.r_2 ≤ length turned.old) × (place_count b.r_1 b.r_2 ≤ length out.old) }
+        ensures { AtFront (row_scores (points self.now.stride 1 self.now.edges.now) self.now.bounds) out.old out.new }
+    {
+        let b = self.bounds;
+        let p = Picture {
+            edges: self.edges,
+            down: 1,
+            across: self.stride,
+            from: b.c_1,
+            to: b.c_2,
+            last: b.r_2,
+        };
+        let last = place_count(b.r_1, b.r_2) - 2;
+        banded_scores(&p, b.r_1, turned, &mut out[2..last]);
+        border_scores(&p, b.r_1, last, out);
+    }
 }
