@@ -68,4 +68,4 @@ smooth_part s h = front_part (length s) (length_smooth s) h
 pub smooth_limits : (s : List ℕ) {lent t : List ℕ} → AtFront (smooth s) lent t → InLimits s → InLimits (take (length s) t)
 smooth_limits s h limits = rw (smooth_part s h) (grind (arith, length_smooth s, largest_smooth s))
 
-pub ruleset smooth_scores = (smooth_part, smooth_limits)
+pub ruleset smooth_scores = (smooth_part, smooth_limits, front_part)

@@ -197,7 +197,7 @@ impl<'a> Scores<'a> {
     }
 
     // Their lines, and how many; t is scratch.
-    #[tactic(auto, using(crate::proofs::Smoothing::smooth_scores, lists::proofs::Front::front_part), unfolding(crate::specs::Lines::lines_of))]
+    #[tactic(auto, using(crate::proofs::Smoothing::smooth_scores), unfolding(crate::specs::Lines::lines_of))]
     pub fn find_lines(&self, t: &mut [u32], lines: &mut [u32]) -> usize
         requires { (length self.now.values.now ≤ length t.old) × (length self.now.values.now ≤ length lines.old) }
         ensures counted { result ≡ length (lines_of self.now.values.now) }
