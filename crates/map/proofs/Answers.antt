@@ -12,7 +12,8 @@ use Rattle.text.specs.Inner.{Puts}
 use Rattle.board.specs.declared.Board.{Board}
 use Rattle.board.proofs.Sides.{passed}
 use Rattle.sample.specs.Fit.{fit_answer}
-use Rattle.sample.proofs.Fit.{passed_both, fit_shown}
+use Rattle.sample.proofs.Answers.{passed_both}
+use Rattle.sample.proofs.Fit.{fit_shown}
 use Rattle.map.specs.Map.{line_width, most_rows, map_text, print_answer, map_answer, MapGives}
 use Rattle.map.specs.Inner.{Printable}
 

@@ -20,8 +20,8 @@ use Rattle.load.specs.declared.Loaded.{Loaded}
 use Rattle.load.specs.Load.{most_byte, shown}
 use Rattle.sample.specs.Sample.{row_at, column_at, cell, on_board, cell_answer, sample_answer}
 use Rattle.sample.specs.Fit.{fit_answer}
-use Rattle.sample.proofs.Answers.{cell_in}
-use Rattle.sample.proofs.Fit.{passed_both, fit_sampled}
+use Rattle.sample.proofs.Answers.{passed_both, cell_in}
+use Rattle.sample.proofs.Fit.{fit_sampled}
 use Rattle.map.specs.Map.{line_width, most_rows, green_level, mark_of, mark_at, cell_mark, map_text, print_answer, map_answer}
 use Rattle.map.specs.Map.{MarksAre, LevelFits, LevelIsByte, MarkIsSample, most_map_bytes, MapFits}
 use Rattle.map.proofs.Level.{level_most, byte_level}

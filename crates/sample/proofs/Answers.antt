@@ -1,11 +1,11 @@
 -- What the checks of a cell tell, and what each way out of a call leaves. Assumes nothing.
 use Prim.Native.Nat.{ℕ, zero, suc, ◌*◌, ◌≤◌, ◌<◌}
-use mathlib.Core.Path.{◌≡◌, refl, sym, ◌∙◌}
+use mathlib.Core.Path.{◌≡◌, refl, sym}
 use mathlib.Core.Bool.{Bool, true, false, not, cond, ◌&&◌, ◌||◌}
 use mathlib.Core.List.{List}
 use native.Mathlib.Nat.{not-suc-le-zero, mul-le-mul}
 use native.Mathlib.Omega.{arith}
-use borrow.Author.Tests.{ltb-true, ltb-false, lt-ltb, le-ltb, ne_eqb}
+use borrow.Author.Tests.{ltb-true, ltb-false, lt-ltb, le-ltb, eqb-true, eqb-false, ne_eqb}
 use lib.Dec.{ltb, eqb}
 use lib.Ieee.{Float}
 use lib.ListN.{length, get_or}
@@ -19,10 +19,9 @@ use Rattle.board.specs.Board.{least_plane_side, most_size}
 use Rattle.std.proofs.lemmas.Bool.{and_parts, or_parts}
 use Rattle.board.proofs.Sides.{passed}
 use Rattle.board.specs.Planes.{planes_answer}
-use Rattle.sample.specs.Inner.{AxisIn, CellGives}
-use Rattle.sample.specs.Sample.{most_number, row_at, column_at, pitch_outside, all_below, numbers_above, on_board, cell, cell_answer}
-use Rattle.sample.specs.Sample.{sample_answer, SampleGives, most_cell_values}
-use Rattle.sample.specs.Fit.{corner_above, record_answer}
+use Rattle.sample.specs.Inner.{RecordIn, AxisIn, CellGives}
+use Rattle.sample.specs.Sample.{most_number, row_at, column_at, pitch_outside, corner_above, record_answer, all_below, numbers_above}
+use Rattle.sample.specs.Sample.{on_board, cell, cell_answer, sample_answer, SampleGives, most_cell_values}
 
 -- two rules that agree below n
 pub all_below_same : (f g : ℕ → ℕ) (limit n : ℕ) → ((i : ℕ) → i < n → f i ≡ g i) → all_below f limit n ≡ all_below g limit n
@@ -65,32 +64,52 @@ all_below_by f limit n {r = false} (k, b, above) =
     let e : get_or (range_with_len 0 n) k 0 ≡ k = omega (arith, get_or-range_with_len 0 n k 0 k-in) in
     sym (not_below f limit n k k-in (rw e at (above 0)))
 
+-- a call whose first checks answer 0, and then its later ones
+pub passed_both : (first later : ℕ) → cond (eqb first 0) later first ≡ 0 → (first ≡ 0) × (later ≡ 0)
+passed_both first later e = go (eqb first 0) refl e
+  where
+    go : (t : Bool) → eqb first 0 ≡ t → cond t later first ≡ 0 → (first ≡ 0) × (later ≡ 0)
+    go true q e = (eqb-true first 0 q, e)
+    go false q e = absurd (eqb-false first 0 q e)
+
+at_most : (n : ℕ) → ltb most_number n ≡ false → n ≤ most_number
+at_most = ltb-false most_number
+
+-- a record whose answer is 0
+pub record_in : (b : Board) → record_answer b ≡ 0 → RecordIn b
+unfolding record_answer corner_above
+record_in b e =
+    let p = passed (pitch_outside b.pixelr || pitch_outside b.pixelc) 9 _ e in
+    let n = or_parts _ (ltb most_number b.c0) (passed (corner_above b) 10 0 p.1).0 in
+    let d = or_parts _ (ltb most_number b.r0) n.0 in
+    let c = or_parts (ltb most_number b.r_1) (ltb most_number b.c_1) d.0 in
+    record {
+      top_in = at_most b.r_1 c.0;
+      left_in = at_most b.c_1 c.1;
+      down_in = at_most b.r0 d.1;
+      across_in = at_most b.c0 n.1;
+    }
+
 -- numbers within the limits
-pub record NumbersIn (x y r₁ c₁ r₀ c₀ size : ℕ) : Type 0 where
-  pub down : AxisIn r₁ r₀ x size
-  pub across : AxisIn c₁ c₀ y size
+pub record NumbersIn (x y size : ℕ) : Type 0 where
+  pub x_in : x ≤ most_number
+  pub y_in : y ≤ most_number
+  pub size_in : size ≤ most_size
   pub fits : 3 * (size * size) ≤ most_cell_values
 
-pub numbers_in : (x y r₁ c₁ r₀ c₀ size : ℕ) → numbers_above x y r₁ c₁ r₀ c₀ size ≡ false → NumbersIn x y r₁ c₁ r₀ c₀ size
+pub numbers_in : (x y size : ℕ) → numbers_above x y size ≡ false → NumbersIn x y size
 unfolding numbers_above
-numbers_in x y r₁ c₁ r₀ c₀ size e =
+numbers_in x y size e =
     let f = or_parts _ (ltb most_size size) e in
-    let e = or_parts _ (ltb most_number c₀) f.0 in
-    let d = or_parts _ (ltb most_number r₀) e.0 in
-    let c = or_parts _ (ltb most_number c₁) d.0 in
-    let b = or_parts _ (ltb most_number r₁) c.0 in
-    let a = or_parts (ltb most_number x) (ltb most_number y) b.0 in
+    let a = or_parts (ltb most_number x) (ltb most_number y) f.0 in
     let s = ltb-false most_size size f.1 in
-    let at_most : (n : ℕ) → ltb most_number n ≡ false → n ≤ most_number = ltb-false most_number in
-    record {
-      down = record { corner_in = at_most r₁ b.1; offset_in = at_most r₀ d.1; number_in = at_most x a.0; size_in = s };
-      across = record { corner_in = at_most c₁ c.1; offset_in = at_most c₀ e.1; number_in = at_most y a.1; size_in = s };
-      fits = omega (arith, mul-le-mul s s);
-    }
+    record { x_in = at_most x a.0; y_in = at_most y a.1; size_in = s; fits = omega (arith, mul-le-mul s s) }
 
 -- what the answer 0 tells
 pub record CellIn (b : Board) (x y size room : ℕ) : Type 0 where
-  pub numbers : NumbersIn x y b.r_1 b.c_1 b.r0 b.c0 size
+  pub down_in : AxisIn b.r_1 b.r0 x size
+  pub across_in : AxisIn b.c_1 b.c0 y size
+  pub fits : 3 * (size * size) ≤ most_cell_values
   pub output : 3 * (size * size) ≤ room
   pub rows : (i : ℕ) → i < size → row_at b x size i < b.height
   pub columns : (j : ℕ) → j < size → column_at b y size j < b.width
@@ -102,61 +121,30 @@ all_in false e = absurd (omega arith)
 pub cell_in : (b : Board) (x y size room : ℕ) → cell_answer b x y size room ≡ 0 → CellIn b x y size room
 unfolding cell_answer
 cell_in b x y size room e =
-    let p = passed (pitch_outside b.pixelr || pitch_outside b.pixelc) 9 _ e in
-    let n = passed (numbers_above x y b.r_1 b.c_1 b.r0 b.c0 size) 10 _ p.1 in
-    let c = passed (not (on_board b x y)) 13 _ n.1 in
+    let p = passed_both (record_answer b) _ e in
+    let r = record_in b p.0 in
+    let a = passed (numbers_above x y size) 10 _ p.1 in
+    let n = numbers_in x y size a.0 in
+    let c = passed (not (on_board b x y)) 13 _ a.1 in
     let o = passed (ltb room (3 * (size * size))) 2 _ c.1 in
     let rows = all_below (row_at b x size) b.height size in
     let columns = all_below (column_at b y size) b.width size in
-    let a = and_parts rows columns (all_in (rows && columns) o.1) in
+    let i = and_parts rows columns (all_in (rows && columns) o.1) in
     record {
-      numbers = numbers_in x y b.r_1 b.c_1 b.r0 b.c0 size n.0;
+      down_in = record { corner_in = r.top_in; offset_in = r.down_in; number_in = n.x_in; size_in = n.size_in };
+      across_in = record { corner_in = r.left_in; offset_in = r.across_in; number_in = n.y_in; size_in = n.size_in };
+      fits = n.fits;
       output = ltb-false room (3 * (size * size)) o.0;
-      rows = below_at (row_at b x size) b.height size a.0;
-      columns = below_at (column_at b y size) b.width size a.1;
+      rows = below_at (row_at b x size) b.height size i.0;
+      columns = below_at (column_at b y size) b.width size i.1;
     }
 
--- the same in the order of the code: what decides of the record comes first
-of_both : (u a b c d s : Bool) → ((((u || a) || b) || c) || d || s) ≡ (u || (((a || b) || c) || d || s))
-of_both true a b c d s = refl
-of_both false a b c d s = refl
-
-record_first : (p u k s : Bool) (rest : ℕ)
-    → ◌≡◌ {A = ℕ} (cond p 10 (cond (u || (k || s)) 11 rest))
-    (cond (eqb (cond p 10 (cond k 11 0)) 0) (cond (u || s) 11 rest) (cond p 10 (cond k 11 0)))
-record_first true u k s rest = refl
-record_first false true true s rest = refl
-record_first false true false s rest = refl
-record_first false false true s rest = refl
-record_first false false false s rest = refl
-
-abbrev pub later_answer : Board → ℕ → ℕ → ℕ → ℕ → ℕ
-later_answer b x y size room =
-    cond (ltb most_number x || ltb most_number y || ltb most_size size) 11
-    (cond (not (on_board b x y)) 14
-    (cond (ltb room (3 * (size * size))) 3
-    (cond (all_below (row_at b x size) b.height size && all_below (column_at b y size) b.width size) 0 12)))
-
-pub cell_by_record : (b : Board) (x y size room : ℕ)
-    → cell_answer b x y size room ≡ cond (eqb (record_answer b) 0) (later_answer b x y size room) (record_answer b)
-unfolding cell_answer record_answer numbers_above corner_above
-cell_by_record b x y size room =
-    let both = of_both (ltb most_number x || ltb most_number y) (ltb most_number b.r_1) (ltb most_number b.c_1) (ltb most_number b.r0)
-    (ltb most_number b.c0)
-    (ltb most_size size) in
-    rw both
-    (record_first (pitch_outside b.pixelr || pitch_outside b.pixelc) _ _ _ _)
-
-pub by_record : (b : Board) (x y size room n : ℕ)
-    → n ≡ cond (eqb (record_answer b) 0) (later_answer b x y size room) (record_answer b) → n ≡ cell_answer b x y size room
-by_record b x y size room n e = e ∙ sym (cell_by_record b x y size room)
-
--- where the numbers pass and the cell is on the board, the places decide
-pub decided : (b : Board) (x y size room : ℕ) → (pitch_outside b.pixelr || pitch_outside b.pixelc) ≡ false
-    → numbers_above x y b.r_1 b.c_1 b.r0 b.c0 size ≡ false → on_board b x y ≡ true → 3 * (size * size) ≤ room
+-- where record and numbers pass and the cell is on the board, the places decide
+pub decided : (b : Board) (x y size room : ℕ) → record_answer b ≡ 0 → numbers_above x y size ≡ false → on_board b x y ≡ true
+    → 3 * (size * size) ≤ room
     → cell_answer b x y size room ≡ cond (all_below (row_at b x size) b.height size && all_below (column_at b y size) b.width size) 0 12
 unfolding cell_answer
-decided b x y size room p n c o = rw (p, n, c, le-ltb _ _ o)
+decided b x y size room r n c o = rw (r, n, c, le-ltb _ _ o)
 
 -- ---- the ways out
 

@@ -40,7 +40,7 @@ pub places_are : {b : Board} {x y size room : ℕ} {k l m n k' l' m' n' : ℕ} {
     → ((j : ℕ) → j < n' → get_or columns j 0 ≡ sampled_at k' l' p' m' n' j)
     → PlacesAre b x y size room (take size rows) (take size columns)
 places_are {size = size} rows columns fit long wide e r e' c =
-    let in_limits = fit.numbers.down.size_in in
+    let in_limits = fit.down_in.size_in in
     let down = rw (e.0, e.1, e.2, e.3, e.4) at r in
     let across = rw (e'.0, e'.1, e'.2, e'.3, e'.4) at c in
     record {

@@ -4,7 +4,7 @@ use mathlib.Core.Path.{◌≡◌, refl, ap}
 use mathlib.Core.Bool.{Bool, true, false, cond}
 use mathlib.Core.List.{List}
 use native.Mathlib.Omega.{arith}
-use borrow.Author.Tests.{le-ltb, eqb-false}
+use borrow.Author.Tests.{le-ltb}
 use lib.Dec.{eqb}
 use lib.Ieee.{Float}
 use lib.ListN.{length}
@@ -13,27 +13,18 @@ use Rattle.board.specs.declared.Board.{Board}
 use Rattle.board.specs.Board.{least_plane_side}
 use Rattle.board.specs.Planes.{planes_answer}
 use Rattle.sample.specs.Sample.{numbers_above, cell_answer, sample_answer, cell, most_cell_values, CellFits}
-use Rattle.sample.proofs.Answers.{numbers_in, cell_in}
-
--- a call that answers 0 passed its later checks too
-later_passed : (first later : ℕ) → cond (eqb first 0) later first ≡ 0 → later ≡ 0
-later_passed first later e = go (eqb first 0) refl e
-  where
-    go : (t : Bool) → eqb first 0 ≡ t → cond t later first ≡ 0 → later ≡ 0
-    go true q e = e
-    go false q e = absurd (eqb-false first 0 q e)
+use Rattle.sample.proofs.Answers.{passed_both, numbers_in, cell_in}
 
 -- with room for the largest cell, more of it decides nothing
 room_same : (b : Board) (x y size room : ℕ) → most_cell_values ≤ room
     → cell_answer b x y size room ≡ cell_answer b x y size most_cell_values
 unfolding cell_answer
-room_same b x y size room long = go (numbers_above x y b.r_1 b.c_1 b.r0 b.c0 size) refl
+room_same b x y size room long = go (numbers_above x y size) refl
   where
-    go : (t : Bool) → numbers_above x y b.r_1 b.c_1 b.r0 b.c0 size ≡ t
-        → cell_answer b x y size room ≡ cell_answer b x y size most_cell_values
+    go : (t : Bool) → numbers_above x y size ≡ t → cell_answer b x y size room ≡ cell_answer b x y size most_cell_values
     go true e = rw e
     go false e =
-        let fits = (numbers_in x y b.r_1 b.c_1 b.r0 b.c0 size e).fits in
+        let fits = (numbers_in x y size e).fits in
         rw (e, le-ltb room (3 * (size * size)) (omega (arith, fits, long)), le-ltb most_cell_values (3 * (size * size)) fits)
 
 -- of any record and planes, any cell, and any size
@@ -46,6 +37,6 @@ cell_fits b planes x y size =
       values_fit =
           λ room e.
           let values : length (cell b planes x y size) ≡ 3 * (size * size) = length_tab_from 0 (3 * (size * size)) _ in
-          rw values (cell_in b x y size room (later_passed first (cell_answer b x y size room) e)).numbers.fits;
+          rw values (cell_in b x y size room (passed_both first (cell_answer b x y size room) e).1).fits;
       room_enough = λ room long. ap (λ (n : ℕ). cond (eqb first 0) n first) (room_same b x y size room long);
     }

@@ -46,11 +46,18 @@ all_below f limit (suc n) = all_below f limit n && ltb (f n) limit
 abbrev pub most_number : ℕ
 most_number = 4096
 
--- x, y, the corner or the offset is above that, or the size above its limit
-unfoldable pub numbers_above : ℕ → ℕ → ℕ → ℕ → ℕ → ℕ → ℕ → Bool
-numbers_above x y r₁ c₁ r₀ c₀ size =
-    ltb most_number x || ltb most_number y || ltb most_number r₁ || ltb most_number c₁ || ltb most_number r₀ || ltb most_number c₀
-    || ltb most_size size
+-- the corner or the offset of a record is above that
+unfoldable pub corner_above : Board → Bool
+corner_above b = ltb most_number b.r_1 || ltb most_number b.c_1 || ltb most_number b.r0 || ltb most_number b.c0
+
+-- the answer to a record by itself: 10 a pitch, 11 its corner or its offset; 0 otherwise
+unfoldable pub record_answer : Board → ℕ
+unfolding pitch_outside corner_above
+record_answer b = cond (pitch_outside b.pixelr || pitch_outside b.pixelc) 10 (cond (corner_above b) 11 0)
+
+-- x or y is above that, or the size above its limit
+unfoldable pub numbers_above : ℕ → ℕ → ℕ → Bool
+numbers_above x y size = ltb most_number x || ltb most_number y || ltb most_size size
 
 -- 02, R-5: a cell is on the board if x < r and y < c
 unfoldable pub on_board : Board → ℕ → ℕ → Bool
@@ -58,13 +65,15 @@ on_board b x y = ltb x b.r && ltb y b.c
 
 -- the answer where the checks of the planes passed, for `room` entries of output
 unfoldable pub cell_answer : Board → ℕ → ℕ → ℕ → ℕ → ℕ
-unfolding pitch_outside numbers_above on_board sampled_at
+unfolding record_answer numbers_above on_board sampled_at
 cell_answer b x y size room =
-    cond (pitch_outside b.pixelr || pitch_outside b.pixelc) 10
-    (cond (numbers_above x y b.r_1 b.c_1 b.r0 b.c0 size) 11
+    let a = record_answer b in
+    cond (eqb a 0)
+    (cond (numbers_above x y size) 11
     (cond (not (on_board b x y)) 14
     (cond (ltb room (3 * (size * size))) 3
     (cond (all_below (row_at b x size) b.height size && all_below (column_at b y size) b.width size) 0 12))))
+    a
 
 -- the answer of a call, on any planes
 unfoldable pub sample_answer : Board → List Float → ℕ → ℕ → ℕ → ℕ → ℕ

@@ -1,7 +1,6 @@
 // Sampling a cell of the board (01, "Cell sampling", and 02, R-2 and R-5). A call refuses with 1, 3, 4, 10, 11, 14, 3 and 12, in that
-// order, before it writes. Definitions: specs/Sample, and specs/Fit (the checks that calls over a whole
-// board start with); specs/Inner is for the inner functions. Laws for callers: proofs/Laws (the room that
-// a cell takes).
+// order, before it writes. Definitions: specs/Sample, and specs/Fit (the checks that calls over a whole board start with); specs/Inner is
+// for the inner functions. Laws for callers: proofs/Laws (the room that a cell takes).
 #![tactic(auto)]
 
 ghost use Rattle.std.specs.Prelude.{◌≡◌, ℕ, ◌+◌, ◌*◌, ◌≤◌, ◌<◌, ◌&&◌, length, get_or};
@@ -10,8 +9,8 @@ ghost use Rattle.lists.specs.Inner.{Placed};
 ghost use Rattle.lists.specs.Tab.{tab, grid};
 ghost use Rattle.refusal.specs.Refusal.{answer_of};
 ghost use Rattle.sample.specs.Sample as Spec;
-ghost use Rattle.sample.specs.Sample.{row_at, column_at, all_below, cell, cell_answer, SampleGives};
-ghost use Rattle.sample.specs.Fit.{corner_above, record_answer, fit_answer};
+ghost use Rattle.sample.specs.Sample.{corner_above, record_answer, row_at, column_at, all_below, cell, cell_answer, SampleGives};
+ghost use Rattle.sample.specs.Fit.{fit_answer};
 ghost use Rattle.sample.specs.Inner.{CellGives, AxisIn, row_value, plane_value};
 
 use board::Board;
@@ -32,7 +31,7 @@ fn pitch_outside(p: f32) -> bool
 }
 
 // Whether the corner or the offset of a record is above the most.
-#[tactic(auto, unfolding(crate::specs::Fit::corner_above))]
+#[tactic(auto, unfolding(crate::specs::Sample::corner_above))]
 fn corner_above(b: Board) -> bool
     ensures { result ≡ corner_above b }
 {
@@ -40,7 +39,7 @@ fn corner_above(b: Board) -> bool
 }
 
 // The refusals 10 and 11 of a record by itself.
-#[tactic(auto, unfolding(crate::specs::Fit::record_answer))]
+#[tactic(auto, unfolding(crate::specs::Sample::record_answer))]
 fn check_record(b: Board) -> Result<(), Refusal>
     ensures { answer_of result ≡ record_answer b }
 {
@@ -79,7 +78,7 @@ fn in_picture(b: Board, x: usize, y: usize, size: usize) -> bool
 }
 
 // The refusals where the planes are fit: all is decided here, from numbers alone.
-#[tactic(auto, using(crate::proofs::Answers::by_record, crate::proofs::Fit::record_in))]
+#[tactic(auto, unfolding(crate::specs::Sample::numbers_above, crate::specs::Sample::cell_answer), using(crate::proofs::Answers::record_in))]
 fn check_cell(b: Board, x: usize, y: usize, size: usize, room: usize) -> Result<(), Refusal>
     ensures { answer_of result ≡ cell_answer b x y size room }
 {

@@ -5,10 +5,10 @@ use Rattle.sample.proofs.Cells.{cell_plane, places_are, row_in, column_in, plane
 use Rattle.sample.proofs.copy_cell.Goals as goal
 
 pub rows-requires : goal.rows-requires
-rows-requires c = (cell_in _ _ _ _ _ c.requires.answered).numbers.down
+rows-requires c = (cell_in _ _ _ _ _ c.requires.answered).down_in
 
 pub columns-requires : goal.columns-requires
-columns-requires c = (cell_in _ _ _ _ _ c.requires.answered).numbers.across
+columns-requires c = (cell_in _ _ _ _ _ c.requires.answered).across_in
 
 pub slice_bounds-copy_plane-end-in-loop-k-3 : goal.slice_bounds-copy_plane-end-in-loop-k-3
 slice_bounds-copy_plane-end-in-loop-k-3 c =
