@@ -79,7 +79,12 @@ static const char *meaning(uint32_t answer)
     case FOLGUTAN_COLUMNS_TOO_FAR: return "columns too far apart";
     case FOLGUTAN_ROWS_NO_GAP: return "rows without a gap above 5";
     case FOLGUTAN_ROWS_TOO_FAR: return "rows too far apart";
+    case FOLGUTAN_BAD_PITCH: return "a pitch is not 8.0 to 200.0";
+    case FOLGUTAN_BAD_NUMBER: return "a number is above its limit";
+    case FOLGUTAN_OUTSIDE: return "a sampled place is not in the picture";
     case FOLGUTAN_BAD_FACTOR: return "a factor is not 2 to 5";
+    case FOLGUTAN_NOT_ON_BOARD: return "a cell is not on the board";
+    case FOLGUTAN_TOO_WIDE: return "more columns than are printed";
     default: return "unknown";
     }
 }
@@ -97,11 +102,28 @@ static void print_load(const folgutan_loaded *loaded, const float *planes)
            planes[at], planes[plane + at], planes[2 * plane + at]);
 }
 
+/* Prints the map of a board that was found, or why there is none. */
+static void print_map(folgutan_board board, const float *planes, size_t planes_len)
+{
+    /* enough for every map, and too much for a stack */
+    uint8_t *text = calloc(FOLGUTAN_MOST_MAP, 1);
+    if (text == NULL) {
+        fprintf(stderr, "no memory for the map\n");
+        return;
+    }
+    folgutan_printed map = folgutan_map(board, planes, planes_len, text, FOLGUTAN_MOST_MAP);
+    if (map.answer == FOLGUTAN_DONE)
+        fwrite(text, 1, map.length, stdout);
+    else
+        printf("map: answer %u, %s\n", (unsigned)map.answer, meaning(map.answer));
+    free(text);
+}
+
 /* The factor that the Rust original narrows by. */
 enum { FACTOR = 3 };
 
 /* Locates the board in the loaded planes and prints it, with the middle of each
- * cell from plane 1. Answers 0 if a board was found. */
+ * cell from plane 1, and its map. Answers 0 if a board was found. */
 static int print_board(folgutan_board board, float *planes, size_t planes_len)
 {
     size_t area = board.height * board.width, sides = board.height + board.width;
@@ -133,6 +155,7 @@ static int print_board(folgutan_board board, float *planes, size_t planes_len)
                 }
                 printf("\n");
             }
+            print_map(l.board, planes, planes_len);
             found = 0;
         }
     } else {

@@ -46,8 +46,8 @@ impl Room {
     }
 }
 
-/// Both came to the same sides, the copy that is changed as 02 says to the port's record, and the screen was
-/// as its kind says. The Rust that is measured is the unchanged one: it goes on with the first edge picture,
+/// Both came to the same sides, the copy that is changed as 02 says to the port's record, whose far corner is
+/// its widened bounds, and the screen was as its kind says. The Rust that is measured is the unchanged one: it goes on with the first edge picture,
 /// and scores a place less of each axis.
 fn checked(kind: Kind, [height, width]: [usize; 2], board: &ImageBoard, located: &Located) {
     let record = load::record(board);
@@ -55,7 +55,8 @@ fn checked(kind: Kind, [height, width]: [usize; 2], board: &ImageBoard, located:
     let ran = probed::locate(load::numbers(&kind.pixels(height, width)), height, width, OWN_FACTOR);
     assert_eq!(answer_of(&ran), Some(located.answer));
     if located.answer == 0 {
-        assert_eq!(ran.record, located.board.record());
+        let [_, r_2, _, c_2] = ran.seen.widened.unwrap();
+        assert_eq!(Record { r_2, c_2, ..ran.record }, located.board.record());
     }
     match kind {
         Kind::Clean | Kind::Noisy => assert_eq!((located.answer, located.narrowed), (0, 0)),
