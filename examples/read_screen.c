@@ -102,14 +102,15 @@ static void print_load(const folgutan_loaded *loaded, const float *planes)
            planes[at], planes[plane + at], planes[2 * plane + at]);
 }
 
-/* Prints the map of a board that was found, or why there is none. */
-static void print_map(folgutan_board board, const float *planes, size_t planes_len)
+/* Prints the map of a board that was found, or why it has none. Answers 0 if it
+ * did. */
+static int print_map(folgutan_board board, const float *planes, size_t planes_len)
 {
     /* enough for every map, and too much for a stack */
     uint8_t *text = calloc(FOLGUTAN_MOST_MAP, 1);
     if (text == NULL) {
         fprintf(stderr, "no memory for the map\n");
-        return;
+        return 1;
     }
     folgutan_printed map = folgutan_map(board, planes, planes_len, text, FOLGUTAN_MOST_MAP);
     if (map.answer == FOLGUTAN_DONE)
@@ -117,13 +118,14 @@ static void print_map(folgutan_board board, const float *planes, size_t planes_l
     else
         printf("map: answer %u, %s\n", (unsigned)map.answer, meaning(map.answer));
     free(text);
+    return 0;
 }
 
 /* The factor that the Rust original narrows by. */
 enum { FACTOR = 3 };
 
 /* Locates the board in the loaded planes and prints it, with the middle of each
- * cell from plane 1, and its map. Answers 0 if a board was found. */
+ * cell from plane 1, and its map. Answers 0 if a board was found and printed. */
 static int print_board(folgutan_board board, float *planes, size_t planes_len)
 {
     size_t area = board.height * board.width, sides = board.height + board.width;
@@ -155,8 +157,7 @@ static int print_board(folgutan_board board, float *planes, size_t planes_len)
                 }
                 printf("\n");
             }
-            print_map(l.board, planes, planes_len);
-            found = 0;
+            found = print_map(l.board, planes, planes_len);
         }
     } else {
         fprintf(stderr, "no memory for the slices\n");

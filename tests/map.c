@@ -503,8 +503,9 @@ static const size_t bad_numbers[] = {4097, 5000, (size_t)1 << 32, ((size_t)1 << 
 static const size_t bad_columns[] = {81, 82, 100, 256 + 5, 65536 + 5, ((size_t)1 << 32) + 1,
                                      (size_t)1 << 63, SIZE_MAX};
 static const size_t bad_rows[] = {4097, 65536 + 6, ((size_t)1 << 32) + 1, (size_t)1 << 63,
-                                  /* 81 times these is small in 64 bits */
-                                  SIZE_MAX / 81 + 1, SIZE_MAX};
+                                  /* 81 times this is small in 64 bits */
+                                  SIZE_MAX / 81 + 1,
+                                  SIZE_MAX};
 static const size_t bad_places[] = {0, AREA - 1, AREA, 2 * AREA, 3 * AREA - 1};
 
 /* The height, the width or both. */

@@ -1,10 +1,10 @@
 -- What is true of every map (02, R-6): marks, levels, what a mark shows, and the room that a map takes. Assumes nothing.
 use Prim.Native.Nat.{ℕ, ◌+◌, ◌*◌, ◌≤◌, ◌<◌}
-use mathlib.Core.Path.{◌≡◌, refl, ap, ◌∙◌}
+use mathlib.Core.Path.{◌≡◌, refl, sym, ap, ◌∙◌}
 use mathlib.Core.Bool.{Bool, true, false, cond, ◌&&◌}
 use mathlib.Core.List.{List}
 use native.Mathlib.Omega.{arith}
-use borrow.Author.Tests.{le-leb, lt-leb, lt-ltb, le-ltb, ltb-false, eq-eqb}
+use borrow.Author.Tests.{le-leb, lt-leb, lt-ltb, le-ltb, ltb-false, eq-eqb, ne_eqb}
 use lib.Arith.{digits_lt}
 use lib.Dec.{eqb, leb, ltb}
 use lib.Ieee.{Float, nan}
@@ -21,7 +21,7 @@ use Rattle.load.specs.Load.{most_byte, shown}
 use Rattle.sample.specs.Sample.{row_at, column_at, cell, on_board, cell_answer, sample_answer}
 use Rattle.sample.specs.Fit.{fit_answer}
 use Rattle.sample.proofs.Answers.{passed_both, cell_in}
-use Rattle.sample.proofs.Fit.{fit_sampled}
+use Rattle.sample.proofs.Fit.{fit_sampled, unfit_refused}
 use Rattle.map.specs.Map.{line_width, most_rows, green_level, mark_of, mark_at, cell_mark, map_text, print_answer, map_answer}
 use Rattle.map.specs.Map.{MarksAre, LevelFits, LevelIsByte, MarkIsSample, most_map_bytes, MapFits}
 use Rattle.map.proofs.Level.{level_most, byte_level}
@@ -92,6 +92,10 @@ module _ (b : Board) (planes : List Float) where
       let c = cell_in b x y 1 3 (passed_both (planes_answer least_plane_side b.height b.width planes false) (cell_answer b x y 1 3) e).1 in
       rw (lt-ltb _ _ (c.rows 0 (omega arith)), lt-ltb _ _ (c.columns 0 (omega arith)))
 
+unfit_map : (b : Board) (planes : List Float) (room : ℕ) → (fit_answer b planes ≡ 0 → ⊥) → map_answer b planes room ≡ fit_answer b planes
+unfolding map_answer
+unfit_map b planes room e = rw (ne_eqb (fit_answer b planes) 0 e) refl
+
 pub mark_is_sample : (b : Board) (planes : List Float) (room x y : ℕ) → MarkIsSample b planes room x y
 unfolding mark_at
 mark_is_sample b planes room x y =
@@ -101,6 +105,7 @@ mark_is_sample b planes room x y =
           sampled_as b planes room x y (prints b planes room e) x-in y-in
           ∙ shows (in_picture b planes x y) (mark_of level) (no_question level);
       mark_is = mark_sampled b planes x y;
+      refused = λ size values e. unfit_map b planes room e ∙ sym (unfit_refused b planes x y size values e);
     }
 
 -- ---- the room that a map takes

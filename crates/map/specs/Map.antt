@@ -111,12 +111,14 @@ pub record LevelIsByte (h w : ℕ) (pixels : List ℕ) (before : List Float) (r 
       → (i j : ℕ) → i < h → j < w → green_level ((view h w after).px 1 i j) ≡ get_or pixels (4 * (i * w + j) + 1) 0
 
 -- a map that is printed shows what sampling gives: each of its cells answers 0 or, where it prints `?`, 12, and of a cell that is sampled
--- the mark is that of the level of its plane 1
+-- the mark is that of the level of its plane 1. Record and planes that are not fit are refused as sampling refuses them, whatever cell and
+-- size are asked for.
 pub record MarkIsSample (b : Board) (planes : List Float) (room x y : ℕ) : Type 0 where
   pub sampled : map_answer b planes room ≡ 0 → x < b.r → y < b.c
       → sample_answer b planes x y 1 3 ≡ cond (eqb (cell_mark b planes x y) 63) 12 0
   pub mark_is : sample_answer b planes x y 1 3 ≡ 0
       → cell_mark b planes x y ≡ mark_of (green_level (get_or (cell b planes x y 1) 1 nan))
+  pub refused : (size values : ℕ) → (fit_answer b planes ≡ 0 → ⊥) → map_answer b planes room ≡ sample_answer b planes x y size values
 
 -- the bytes of the longest text
 abbrev pub most_map_bytes : ℕ

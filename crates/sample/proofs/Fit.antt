@@ -1,12 +1,13 @@
 -- What a record and planes that are fit for sampling show, and that sampling them is left to the cell. Assumes nothing.
-use Rattle.std.proofs.Common.{◌≡◌, ℕ, ◌*◌, ◌≤◌, true, false, cond, ◌&&◌, List, Float, le-ltb}
+use Rattle.std.proofs.Common.{◌≡◌, ℕ, zero, suc, ◌*◌, ◌≤◌, true, false, cond, ◌&&◌, eqb, List, Float, refl, le-ltb}
 use Rattle.board.specs.declared.Board.{Board}
 use Rattle.board.specs.Board.{most_size, least_plane_side}
 use Rattle.board.specs.Planes.{planes_answer}
 use Rattle.board.specs.Inner.{FitPlanes}
 use Rattle.board.proofs.Planes.{planes_fit}
 use Rattle.sample.specs.Inner.{RecordIn}
-use Rattle.sample.specs.Sample.{most_number, record_answer, numbers_above, on_board, all_below, row_at, column_at, sample_answer}
+use Rattle.sample.specs.Sample.{most_number, record_answer, numbers_above, on_board, all_below, row_at, column_at, cell_answer}
+use Rattle.sample.specs.Sample.{sample_answer}
 use Rattle.sample.specs.Fit.{fit_answer}
 use Rattle.sample.proofs.Answers.{passed_both, record_in, decided}
 
@@ -34,3 +35,14 @@ fit_sampled b planes x y size room e x-in y-in size-in on long =
     let n : numbers_above x y size ≡ false =
     rw (le-ltb most_number x x-in, le-ltb most_number y y-in, le-ltb most_size size size-in) in
     rw p.0 (decided b x y size room p.1 n on long)
+
+-- and where they are not fit, that is the answer of every call
+pub unfit_refused : (b : Board) (planes : List Float) (x y size room : ℕ) → (fit_answer b planes ≡ 0 → ⊥)
+    → sample_answer b planes x y size room ≡ fit_answer b planes
+unfolding sample_answer cell_answer fit_answer
+unfit_refused b planes x y size room e = go (planes_answer least_plane_side b.height b.width planes false) (record_answer b) _ e
+  where
+    go : (p r c : ℕ) → (cond (eqb p 0) r p ≡ 0 → ⊥) → cond (eqb p 0) (cond (eqb r 0) c r) p ≡ cond (eqb p 0) r p
+    go (suc p) r c e = refl
+    go zero (suc r) c e = refl
+    go zero zero c e = absurd (e refl)

@@ -1,5 +1,4 @@
--- What sampling decides from record and planes alone: 02, R-6, refuses with it before all else. The answers are those of
--- `sample_answer` (proofs/Fit).
+-- What sampling decides from record and planes alone, in its order: 02, R-6, refuses with it before all else.
 use Rattle.std.specs.Prelude.{ℕ, false, cond, List, eqb, Float}
 use Rattle.board.specs.declared.Board.{Board}
 use Rattle.board.specs.Board.{least_plane_side}

@@ -46,7 +46,7 @@ all_below f limit (suc n) = all_below f limit n && ltb (f n) limit
 abbrev pub most_number : ℕ
 most_number = 4096
 
--- the corner or the offset of a record is above that
+-- the corner or the offset of a record is above 4,096
 unfoldable pub corner_above : Board → Bool
 corner_above b = ltb most_number b.r_1 || ltb most_number b.c_1 || ltb most_number b.r0 || ltb most_number b.c0
 
@@ -55,7 +55,7 @@ unfoldable pub record_answer : Board → ℕ
 unfolding pitch_outside corner_above
 record_answer b = cond (pitch_outside b.pixelr || pitch_outside b.pixelc) 10 (cond (corner_above b) 11 0)
 
--- x or y is above that, or the size above its limit
+-- x or y is above 4,096, or the size above its limit
 unfoldable pub numbers_above : ℕ → ℕ → ℕ → Bool
 numbers_above x y size = ltb most_number x || ltb most_number y || ltb most_size size
 

@@ -47,8 +47,8 @@ impl Room {
 }
 
 /// Both came to the same sides, the copy that is changed as 02 says to the port's record, whose far corner is
-/// its widened bounds, and the screen was as its kind says. The Rust that is measured is the unchanged one: it goes on with the first edge picture,
-/// and scores a place less of each axis.
+/// its widened bounds, and the screen was as its kind says. The Rust that is measured is the unchanged one: it
+/// goes on with the first edge picture, and scores a place less of each axis.
 fn checked(kind: Kind, [height, width]: [usize; 2], board: &ImageBoard, located: &Located) {
     let record = load::record(board);
     assert_eq!((record.height, record.width), (located.board.height, located.board.width));
