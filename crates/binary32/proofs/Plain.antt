@@ -60,7 +60,7 @@ pub at_most_bits : {x : Float} (b : ℕ) → Plain x → b ≤ 0x7F800000 → le
 at_most_bits b p h = rw (bits_back b h) at (plain_order p (plain_of b h))
 
 -- below is what is not at least
-not_leb : (a b : ℕ) → ltb a b ≡ not (leb b a)
+pub not_leb : (a b : ℕ) → ltb a b ≡ not (leb b a)
 not_leb a b = at (leb b a) refl
   where
     at : (t : Bool) → leb b a ≡ t → ltb a b ≡ not t

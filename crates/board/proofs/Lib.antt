@@ -1,4 +1,5 @@
 pub mod Packed
 pub mod Planes
 pub mod Sides
+pub mod Sums
 pub mod Units

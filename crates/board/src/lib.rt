@@ -8,15 +8,16 @@ ghost use Rattle.binary32.specs.Binary32.{unit};
 ghost use Rattle.refusal.specs.Refusal.{answer_of};
 ghost use Rattle.board.specs.Board as Spec;
 ghost use Rattle.board.specs.Board.{LimitsAre, FactorsAre};
-ghost use Rattle.board.specs.Planes.{all_units, planes_answer};
+ghost use Rattle.board.specs.Planes.{planes_answer};
 ghost use Rattle.board.specs.Screen.{channel_of};
 
-use lists::Test;
 use refusal::Refusal;
 
 mod factor;
+mod values;
 
 pub use factor::Factor;
+pub use values::all_units;
 
 // The board: its sides, its corner and its far corner, the offsets from the corner at which the grid of cells begins, its counts of rows
 // and columns, and its pitches.
@@ -131,26 +132,6 @@ pub fn sides_outside(least: usize, height: usize, width: usize) -> bool
     ensures { result ≡ Spec.sides_outside least height width }
 {
     outside(least, Board::MOST_SIDE, height) || outside(least, Board::MOST_SIDE, width)
-}
-
-// The test for a value that is no unit.
-struct NoUnit;
-
-impl Test<f32> for NoUnit {
-    ghost passed = { λ _ x. not (unit x) };
-
-    fn passes(&self, x: f32) -> bool {
-        !binary32::unit(x)
-    }
-}
-
-// Whether the first n values are units. Counting without an early exit keeps four values to a register.
-#[tactic(auto, using(crate::proofs::Units::units_counted))]
-pub fn all_units(planes: &[f32], n: usize) -> bool
-    requires { (n ≤ length planes.now) × (n ≤ 2 ^ 26) }
-    ensures { result ≡ all_units (take n planes.now) }
-{
-    lists::count_passing(&planes[..n], &NoUnit) == 0
 }
 
 // Whether planes of these sides are fit: it refuses 1, 3 and 4. `short` tells whether another slice is short; with sides outside
