@@ -1,7 +1,7 @@
 -- Plain values: binary32 numbers with the sign bit clear, which are ordered as their bits are. Assumes nothing.
-use Rattle.std.proofs.Common.{◌≡◌, ℕ, ◌*◌, ◌<◌, ◌≤◌, Bool, true, false, cond, not, ◌&&◌, ◌||◌, T, eqb, ltb, leb, sym, refl, ap, ◌∙◌, ⊎_elim, le_of_lt, mod-eq_of_lt, eq-or-lt_of_le, arith, ltb-false, ltb-true, le-ltb, lt-ltb, eq-eqb, ne_eqb, leb-false, leb-true}
-use lib.Ieee.{Float, nan, inf, fin, binary32, up, down, lt, le, fits, nan_bits, to_bits, of_bits}
-use lib.Ieee.Bits.{of_bits-fits, to_bits-of_bits, nan_bits_is, nan_bits_above}
+use Rattle.std.proofs.Common.{◌≡◌, ℕ, ◌*◌, ◌<◌, ◌≤◌, max, Bool, true, false, cond, not, ◌&&◌, ◌||◌, T, eqb, ltb, leb, sym, refl, ap, ◌∙◌, ⊎_elim, le_of_lt, mod-eq_of_lt, eq-or-lt_of_le, arith, ltb-false, ltb-true, le-ltb, lt-ltb, eq-eqb, ne_eqb, leb-false, leb-true}
+use lib.Ieee.{Float, nan, inf, fin, binary32, up, down, lt, le, fits, is_nan, nan_bits, to_bits, of_bits}
+use lib.Ieee.Bits.{of_bits-fits, of_bits-to_bits, to_bits-of_bits, nan_bits_is, nan_bits_above}
 use Rattle.binary32.specs.Binary32.{magnitude, larger}
 use Rattle.binary32.proofs.Order.{NonNegative, finite_bits, order_of_bits}
 use Rattle.binary32.proofs.Values.{fits_magnitude}
@@ -99,3 +99,26 @@ above_bits b p h = rw (bits_back b h) at (plain_below (plain_of b h) p)
 
 pub below_bits : {x : Float} (b : ℕ) → Plain x → b ≤ 0x7F800000 → lt x (of_bits binary32 b) ≡ ltb (to_bits binary32 x) b
 below_bits b p h = rw (bits_back b h) at (plain_below p (plain_of b h))
+
+-- ---- the larger of two, by the bits
+
+pub plain_number : (x : Float) → Plain x → Number x
+unfolding is_nan
+plain_number nan p = absurd p.positive
+plain_number (inf s) p = tt
+plain_number (fin s m e) p = tt
+
+pub larger_by_bits : {x y : Float} → Plain x → Plain y → of_bits binary32 (max (to_bits binary32 x) (to_bits binary32 y)) ≡ larger x y
+unfolding larger
+larger_by_bits {x} {y} p q = rw (plain_below q p) (go (ltb (to_bits binary32 y) (to_bits binary32 x)) refl)
+  where
+    go : (t : Bool) → ltb (to_bits binary32 y) (to_bits binary32 x) ≡ t
+        → of_bits binary32 (max (to_bits binary32 x) (to_bits binary32 y)) ≡ cond t x y
+    go true e =
+        let l = ltb-true (to_bits binary32 y) (to_bits binary32 x) e in
+        let m : max (to_bits binary32 x) (to_bits binary32 y) ≡ to_bits binary32 x = omega arith in
+        rw m (of_bits-to_bits binary32 x p.held)
+    go false e =
+        let l = ltb-false (to_bits binary32 y) (to_bits binary32 x) e in
+        let m : max (to_bits binary32 x) (to_bits binary32 y) ≡ to_bits binary32 y = omega arith in
+        rw m (of_bits-to_bits binary32 y q.held)

@@ -8,7 +8,7 @@
 // proofs/Share: a share of m, cut to a whole number, is below m.
 #![tactic(auto)]
 
-ghost use Rattle.std.specs.Prelude.{◌≡◌, not, T, is_nan, Some, None};
+ghost use Rattle.std.specs.Prelude.{◌≡◌, ◌≤◌, not, T, is_nan, Some, None};
 ghost use Rattle.std.specs.Float.{binary32};
 ghost use Rattle.std.specs.Float.Ieee.{to_bits};
 ghost use Rattle.binary32.specs.Binary32 as Spec;
@@ -25,7 +25,8 @@ pub fn unit(x: f32) -> bool
 // The sign bit is the highest of 32: the remainder clears it.
 pub fn magnitude(x: f32) -> f32
     requires { T (not (is_nan x)) }
-    ensures { result ≡ Spec.magnitude x }
+    ensures is { result ≡ Spec.magnitude x }
+    ensures plain { to_bits binary32 result ≤ 0x7F800000 }
 {
     f32::from_bits(x.to_bits() % 0x80000000)
 }
@@ -34,6 +35,15 @@ pub fn larger(a: f32, b: f32) -> f32
     ensures { result ≡ Spec.larger a b }
 {
     if a > b { a } else { b }
+}
+
+// The same of two numbers with the sign bit clear, by their bits: the compiler packs these, and no comparison of values.
+pub fn larger_plain(a: f32, b: f32) -> f32
+    requires { (to_bits binary32 a ≤ 0x7F800000) × (to_bits binary32 b ≤ 0x7F800000) }
+    ensures is { result ≡ Spec.larger a b }
+    ensures plain { to_bits binary32 result ≤ 0x7F800000 }
+{
+    f32::from_bits(a.to_bits().max(b.to_bits()))
 }
 
 pub fn lesser(a: f32, b: f32) -> f32

@@ -1,5 +1,7 @@
 // The square of 3 by 3 values below and to the right of a point, and the slopes across it.
-ghost use Rattle.std.specs.Prelude.{◌≡◌, ◌+◌, ◌*◌, ◌<◌, length};
+ghost use Rattle.std.specs.Prelude.{◌≡◌, ◌+◌, ◌*◌, ◌<◌, ◌≤◌, length};
+ghost use Rattle.std.specs.Float.{binary32};
+ghost use Rattle.std.specs.Float.Ieee.{to_bits};
 ghost use Rattle.binary32.specs.Binary32.{magnitude};
 ghost use Rattle.gradient.specs.Gradient as Spec;
 ghost use Rattle.gradient.specs.Gradient.{row_sum};
@@ -26,7 +28,8 @@ fn difference(a: f32, b: f32, c: f32, d: f32, e: f32, f: f32) -> f32
 impl<'a> Square<'a> {
     // The magnitude of the sum: the top row taken away, then the bottom row added.
     fn slope(&self) -> f32
-        ensures { result ≡ magnitude (row_sum (square self.now.values.now self.now.at self.now.down self.now.right) 0 0) }
+        ensures is { result ≡ magnitude (row_sum (square self.now.values.now self.now.at self.now.down self.now.right) 0 0) }
+        ensures plain { to_bits binary32 result ≤ 0x7F800000 }
     {
         let Square {
             values,
@@ -62,8 +65,13 @@ impl<'a> Square<'a> {
 
     // The larger of `best` and the slopes downwards and to the right.
     pub(crate) fn steeper(&self, best: f32) -> f32
-        ensures { result ≡ Spec.steeper (square self.now.values.now self.now.at self.now.down self.now.right) 0 0 best }
+        requires { to_bits binary32 best ≤ 0x7F800000 }
+        ensures is { result ≡ Spec.steeper (square self.now.values.now self.now.at self.now.down self.now.right) 0 0 best }
+        ensures plain { to_bits binary32 result ≤ 0x7F800000 }
     {
-        binary32::larger(binary32::larger(best, self.slope()), self.turned().slope())
+        binary32::larger_plain(
+            binary32::larger_plain(best, self.slope()),
+            self.turned().slope(),
+        )
     }
 }

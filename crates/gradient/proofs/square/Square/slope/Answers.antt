@@ -9,7 +9,7 @@ magnitude-requires c =
     let s = c.args.self.now in
     rw (c.difference.ensures, square_sum s.values.now s.at s.down s.right) (square_number s.values.now s.at s.down s.right s.units)
 
-pub returns : goal.returns
-returns c =
+pub returns-clause-is : goal.returns-clause-is
+returns-clause-is c =
     let s = c.args.self.now in
-    c.magnitude.ensures ∙ ap magnitude (c.difference.ensures ∙ square_sum s.values.now s.at s.down s.right)
+    c.magnitude.ensures.is ∙ ap magnitude (c.difference.ensures ∙ square_sum s.values.now s.at s.down s.right)
