@@ -1,5 +1,6 @@
 -- What a record and planes that are fit for sampling show, and that sampling them is left to the cell. Assumes nothing.
-use Rattle.std.proofs.Common.{◌≡◌, ℕ, zero, suc, ◌*◌, ◌≤◌, true, false, cond, ◌&&◌, eqb, List, Float, refl, le-ltb}
+use Rattle.std.proofs.Common.{◌≡◌, ℕ, ◌*◌, ◌≤◌, Bool, true, false, cond, ◌&&◌, eqb, List, Float, refl, le-ltb}
+use borrow.Author.Tests.{eqb-true}
 use Rattle.board.specs.declared.Board.{Board}
 use Rattle.board.specs.Board.{most_size, least_plane_side}
 use Rattle.board.specs.Planes.{planes_answer}
@@ -36,13 +37,19 @@ fit_sampled b planes x y size room e x-in y-in size-in on long =
     rw (le-ltb most_number x x-in, le-ltb most_number y y-in, le-ltb most_size size size-in) in
     rw p.0 (decided b x y size room p.1 n on long)
 
+-- the third of three checks, where one of the first two does not answer 0
+later_unasked : (first next later : ℕ) → (cond (eqb first 0) next first ≡ 0 → ⊥)
+    → cond (eqb first 0) (cond (eqb next 0) later next) first ≡ cond (eqb first 0) next first
+later_unasked first next later h = go (eqb first 0) refl (eqb next 0) refl
+  where
+    go : (s : Bool) → eqb first 0 ≡ s → (t : Bool) → eqb next 0 ≡ t → cond s (cond t later next) first ≡ cond s next first
+    go true e true f = absurd (h (rw e (eqb-true next 0 f)))
+    go true e false f = refl
+    go false e t f = refl
+
 -- and where they are not fit, that is the answer of every call
 pub unfit_refused : (b : Board) (planes : List Float) (x y size room : ℕ) → (fit_answer b planes ≡ 0 → ⊥)
     → sample_answer b planes x y size room ≡ fit_answer b planes
 unfolding sample_answer cell_answer fit_answer
-unfit_refused b planes x y size room e = go (planes_answer least_plane_side b.height b.width planes false) (record_answer b) _ e
-  where
-    go : (p r c : ℕ) → (cond (eqb p 0) r p ≡ 0 → ⊥) → cond (eqb p 0) (cond (eqb r 0) c r) p ≡ cond (eqb p 0) r p
-    go (suc p) r c e = refl
-    go zero (suc r) c e = refl
-    go zero zero c e = absurd (e refl)
+unfit_refused b planes x y size room e =
+    later_unasked (planes_answer least_plane_side b.height b.width planes false) (record_answer b) _ e
