@@ -1,20 +1,17 @@
 -- The sample and its parts: where their rows lie, how many values they have, that they are plain, that the rank is one of the sample's
--- places, and counting by the bits, a row by itself and row after row. Assumes nothing.
-use Rattle.std.proofs.Common.{◌≡◌, ℕ, suc, ◌+◌, ◌*◌, ◌/◌, ◌%◌, ◌^◌, ◌≤◌, ◌<◌, Bool, true, false, cond, leb, List, [], ◌∷◌, length, get_or, take, drop, sum, map, sym, refl, ap, ◌∙◌, arith, length-drop}
+-- places, and counting row after row. Assumes nothing.
+use Rattle.std.proofs.Common.{◌≡◌, ℕ, ◌+◌, ◌*◌, ◌/◌, ◌%◌, ◌^◌, ◌≤◌, ◌<◌, false, List, length, get_or, take, drop, sym, refl, ap, ◌∙◌, arith, length-drop}
 use Rattle.std.proofs.Math.Nat.{add-mul, zero-mul, one-mul, mul_comm, mul-le-mul_right, mul-pos, div-mul-le_self, mod-lt}
 use Rattle.std.proofs.Math.Seq.{get_or-drop}
-use Rattle.std.proofs.lemmas.List.Sums.{sum_by-cons}
-use Rattle.std.specs.Int.{from_bool}
 use mathlib.Core.Path.{fun_ext}
-use lib.Ieee.{Float, nan, binary32, le, to_bits, of_bits}
+use lib.Ieee.{Float, nan, binary32, to_bits, of_bits}
 use lib.Ieee.Exact.{HasValue}
 use Rattle.lists.specs.Tab.{tab, grid}
-use Rattle.lists.specs.Picture.{bit}
 use Rattle.lists.proofs.Count.{count_append}
 use Rattle.lists.proofs.Tab.{length_tab_from, get_or_tab, tab_same}
 use Rattle.lists.proofs.Part.{tab_take}
 use Rattle.lists.proofs.Grid.{row_column, grid_more}
-use Rattle.binary32.proofs.Plain.{Plain, bits_plain, at_most_bits}
+use Rattle.binary32.proofs.Plain.{Plain, bits_plain}
 use Rattle.binary32.proofs.Share.{share_below}
 use Rattle.rank.specs.Inner.{at_most, count_at_most}
 use Rattle.edges.specs.Edges.{middle, sample, rank_of}
@@ -112,26 +109,7 @@ rank_in {m} row column g e r k h =
     let some : 0 < taken 1 row * taken 1 column = mul-pos (omega arith) (omega arith) in
     (rank_below m (omega (arith, e, length_part 1 1 row column g)) h, rw (part_all row column g) at e)
 
--- ---- counting by the bits
-
--- the number of a bool
-pub bit_of : (b : Bool) → from_bool b ≡ bit b
-bit_of true = refl
-bit_of false = refl
-
--- 1 for a value that is at most the one with these bits
-abbrev pub below : ℕ → Float → ℕ
-below b x = from_bool (le x (of_bits binary32 b))
-
--- a sum of these counts
-pub count_sum : {b : ℕ} (l : List Float) → b ≤ 0x7F800000 → AllAre Plain l
-    → sum (map (below b) l) ≡ count_at_most (to_bits binary32) b l
-count_sum [] i p = refl
-count_sum {b} (x ∷ l) i p =
-    let one : below b x ≡ cond (leb (to_bits binary32 x) b) 1 0 =
-    bit_of (le x (of_bits binary32 b)) ∙ ap bit (at_most_bits b (p 0 (omega arith)) i) in
-    let rest = count_sum l i (λ k h. p (suc k) (omega arith)) in
-    sum_by-cons (λ n. n) (below b x) (map (below b) l) ∙ omega (arith, one, rest)
+-- ---- counting
 
 -- one row more
 pub count_row : (b : ℕ) (f : ℕ → ℕ → Float) (columns i : ℕ)

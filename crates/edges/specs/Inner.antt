@@ -10,6 +10,10 @@ use Rattle.edges.specs.Edges.{middle}
 abbrev pub AllPlain : List Float → Type 0
 AllPlain g = (k : ℕ) → k < length g → to_bits binary32 (get_or g k nan) ≤ 0x7F800000
 
+-- and a threshold is another such: these are ordered as their bits are
+abbrev pub ByBits : Float → List Float → Type 0
+ByBits th g = AllPlain g × (to_bits binary32 th ≤ 0x7F800000)
+
 -- every value is one of binary32, as the type f32 has it
 abbrev pub AllHeld : List Float → Type 0
 AllHeld g = (k : ℕ) → T (fits binary32 (get_or g k nan))

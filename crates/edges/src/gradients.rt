@@ -46,16 +46,19 @@ fn middle(side: usize) -> usize
     3 * side / 4 - side / 4
 }
 
-// How many values of the row are at most the value with these bits. Plain values are ordered as their bits are.
-#[tactic(auto, using(binary32::proofs::Plain::bits_number))]
+// How many values of the row are at most the value with these bits. Plain values are ordered as their bits are, and the compiler packs
+// comparisons of bits alone.
 fn count_row(row: &[f32], bits: u32) -> u32
     requires few { length row.now ≤ 2048 }
-    requires plain { AllPlain row.now × (bits ≤ 0x7F800000) }
+    requires plain { AllPlain row.now }
     ensures is { result ≡ count_at_most (to_bits binary32) bits row.now }
     ensures few { result ≤ length row.now }
 {
-    let most = f32::from_bits(bits);
-    row.iter().map(|x| u32::from(*x <= most)).sum()
+    let mut n: u32 = 0;
+    for x in row {
+        n += (x.to_bits() <= bits) as u32;
+    }
+    n
 }
 
 impl<'a> Gradients<'a> {
@@ -109,7 +112,6 @@ impl<'a> Gradients<'a> {
     // How many values of a part are at most the value with these bits.
     #[tactic(auto, using(crate::proofs::Sample::count_row))]
     pub(crate) fn count_part(&self, part: Part, bits: u32) -> u32
-        requires { bits ≤ 0x7F800000 }
         ensures { result
             ≡ count_at_most (to_bits binary32) bits
             (Inner.part part.every part.parts self.now.row self.now.column self.now.values.now) }

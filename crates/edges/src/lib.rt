@@ -5,7 +5,7 @@
 ghost use Rattle.std.specs.Prelude.{◌≡◌, ◌^◌, ◌≤◌, length};
 ghost use Rattle.lists.specs.Front.{AtFront};
 ghost use Rattle.edges.specs.Edges.{rank_of, threshold, marks};
-ghost use Rattle.edges.specs.Inner.{GradientsFit};
+ghost use Rattle.edges.specs.Inner.{GradientsFit, ByBits};
 
 mod gradients;
 mod range;
@@ -28,7 +28,8 @@ fn rank_of(m: usize) -> u64
 pub fn threshold_of(row: usize, column: usize, g: &[f32]) -> f32
     requires sides_in { (2 ≤ row) × (2 ≤ column) }
     requires gradients_fit { GradientsFit row column g.now }
-    ensures { result ≡ threshold row column g.now }
+    ensures is { result ≡ threshold row column g.now }
+    ensures by_bits { ByBits result g.now }
 {
     let g = Gradients {
         row,
@@ -39,12 +40,14 @@ pub fn threshold_of(row: usize, column: usize, g: &[f32]) -> f32
     f32::from_bits(threshold_bits(&g, rank as u32))
 }
 
-// A byte for each gradient, 1 where it is at least the threshold.
+// A byte for each gradient, 1 where it is at least the threshold, told by their bits.
 pub fn mark(th: f32, g: &[f32], out: &mut [u8])
-    requires { length g.now ≤ length out.old }
+    requires room { length g.now ≤ length out.old }
+    requires by_bits { ByBits th g.now }
     ensures { AtFront (marks th (length g.now) g.now) out.old out.new }
 {
+    let bits = th.to_bits();
     for (k, x) in g.iter().enumerate() {
-        out[k] = u8::from(th <= *x);
+        out[k] = u8::from(bits <= x.to_bits());
     }
 }

@@ -1,4 +1,4 @@
-// A range of the bits of plain values, which is cut until one is left.
+// A range of bits, which is cut until one is left.
 ghost use Rattle.std.specs.Prelude.{◌≡◌, ◌+◌, ◌≤◌, ◌<◌};
 
 // The bits of 0.01 and of 1.0, the limits of the threshold.
@@ -11,7 +11,6 @@ pub(crate) struct Range {
     pub(crate) lo: u32,
     pub(crate) hi: u32,
     ghost in_order: { lo ≤ hi },
-    ghost plain: { hi ≤ 0x7F800000 },
 }
 
 impl Range {

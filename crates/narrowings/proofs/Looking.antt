@@ -11,7 +11,7 @@ use Rattle.lists.proofs.Front.{front_fits, front_part}
 use Rattle.gradient.specs.Gradient.{gradients}
 use Rattle.gradient.proofs.Laws.{length_gradients}
 use Rattle.edges.specs.Edges.{threshold, edges}
-use Rattle.edges.specs.Inner.{GradientsFit}
+use Rattle.edges.specs.Inner.{GradientsFit, ByBits}
 use Rattle.edges.proofs.Laws.{length_edges, all_plain}
 use Rattle.board.specs.Board.{least_plane_side}
 use Rattle.board.specs.Inner.{FitPlanes}
@@ -47,8 +47,14 @@ module _ (h w : ℕ) (planes : List Float) where
   -- threshold and bounds that are taken from them are those of the screen
   pub looks_by : {th : Float} {b : Bounds} {before after : List Float} → AtFront (gradients h w planes) before after
       → let g = take ((h - 2) * (w - 2)) after in
-      th ≡ threshold (h - 2) (w - 2) g → b ≡ bounds_of (points (w - 2) 1 (marks_by th g)) (h - 2) (w - 2) → Looks h w planes th b after
-  looks_by x t is =
+      th ≡ threshold (h - 2) (w - 2) g → ByBits th g → b ≡ bounds_of (points (w - 2) 1 (marks_by th g)) (h - 2) (w - 2)
+      → Looks h w planes th b after
+  looks_by x t p is =
       let part = gradients_part x in
       let th = rw part at t in
-      record { gradients_are = part; threshold_is = th; bounds_are = rw (part, th, length_gradients h w planes) at is }
+      record {
+        gradients_are = part;
+        threshold_is = th;
+        by_bits = rw part at p;
+        bounds_are = rw (part, th, length_gradients h w planes) at is;
+      }

@@ -1,16 +1,20 @@
-use Rattle.std.proofs.Common.{◌≡◌, ◌∙◌, sum, map, arith, rules}
-use Rattle.std.specs.Float.{binary32}
+use Rattle.std.proofs.Common.{get_or, arith}
+use Rattle.std.specs.Float.{nan, binary32}
 use Rattle.std.specs.Float.Ieee.{to_bits}
-use Rattle.lists.proofs.Count.{count_le}
+use Rattle.lists.proofs.Count.{count_more, byte_at_most}
 use Rattle.rank.specs.Inner.{at_most}
-use Rattle.binary32.proofs.Plain.{bits_plain}
-use Rattle.edges.proofs.Sample.{below, count_sum}
+use Rattle.binary32.proofs.Plain.{bits_plain, plain_number}
 use Rattle.edges.proofs.gradients.count_row.Goals as goal
 
-pub returns-clause-is : goal.returns-clause-is
-returns-clause-is c =
-    let s : c.sum.result ≡ sum (map (below c.args.bits) c.args.row.now) = search rules in
-    s ∙ count_sum c.args.row.now c.requires.plain.1 (λ k h. bits_plain _ (c.type_inv.row k) (c.requires.plain.0 k h))
+pub float_to_bits-n : goal.float_to_bits-n
+float_to_bits-n c =
+    let k = c.loop-x.x-index in
+    plain_number _ (bits_plain _ (c.type_inv.row k) (c.requires.plain k (omega arith)))
 
-pub returns-clause-few : goal.returns-clause-few
-returns-clause-few c = omega (arith, returns-clause-is c, count_le (at_most (to_bits binary32) c.args.bits) c.args.row.now)
+pub loop-x-preserved : goal.loop-x-preserved
+loop-x-preserved c =
+    let row = c.args.row.now in
+    let k = c.loop-x.x-index in
+    let counted = at_most (to_bits binary32) c.args.bits in
+    let more = count_more counted row k nan (omega arith) in
+    (omega (arith, c.loop-x.invariant.0, byte_at_most (counted (get_or row k nan))), omega (arith, c.loop-x.invariant.1, more))
