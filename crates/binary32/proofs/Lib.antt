@@ -2,5 +2,4 @@ pub mod Numbers
 pub mod Order
 pub mod Plain
 pub mod Share
-pub mod Units
 pub mod Values

@@ -4,7 +4,6 @@
 // proofs/Numbers: sums and magnitudes of numbers are numbers.
 // proofs/Order: values that are not negative, what is rounded without a sign among them, are ordered as their bits are.
 // proofs/Plain: the same for a comparison with a value given by its bits.
-// proofs/Units: the smaller and the larger of two units by their bits.
 // proofs/Share: a share of m, cut to a whole number, is below m.
 #![tactic(auto)]
 
@@ -12,7 +11,6 @@ ghost use Rattle.std.specs.Prelude.{◌≡◌, ◌≤◌, not, T, is_nan, Some, 
 ghost use Rattle.std.specs.Float.{binary32};
 ghost use Rattle.std.specs.Float.Ieee.{to_bits};
 ghost use Rattle.binary32.specs.Binary32 as Spec;
-ghost use Rattle.binary32.specs.Inner as Inner;
 
 // Whether the bits are at most 3F800000 hexadecimal. The bits of what is no number may not be read, so it is tested first.
 #[tactic(auto, using(crate::proofs::Values::nan_no_unit), unfolding(crate::specs::Binary32::unit))]
@@ -44,12 +42,6 @@ pub fn larger_plain(a: f32, b: f32) -> f32
     ensures plain { to_bits binary32 result ≤ 0x7F800000 }
 {
     f32::from_bits(a.to_bits().max(b.to_bits()))
-}
-
-pub fn lesser(a: f32, b: f32) -> f32
-    ensures { result ≡ Inner.lesser a b }
-{
-    if a < b { a } else { b }
 }
 
 // As Rust's `as u64`: total, 0 for what is negative or no number, the largest u64 for what lies above.

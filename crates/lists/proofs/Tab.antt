@@ -1,7 +1,8 @@
--- A list by its rule: its length, its entries, two rules that agree, and two lists that are one. Assumes nothing.
+-- A list by its rule: its length, its entries, two rules that agree, two lists that are one, and a function of each entry.
+-- Assumes nothing.
 use Prim.Native.Nat.{ℕ, zero, suc, ◌+◌, ◌<◌, ◌≤◌}
 use mathlib.Core.Path.{◌≡◌, refl, ap, ◌∙◌}
-use mathlib.Core.List.{List, ◌∷◌, ◌++◌}
+use mathlib.Core.List.{List, ◌∷◌, ◌++◌, map}
 use native.Mathlib.Nat.{not-suc-le-zero, le_of_suc-le-suc, zero-add, suc-add}
 use native.Mathlib.Omega.{arith}
 use lib.ListN.{length, get_or}
@@ -40,3 +41,7 @@ module _ {A : Type 0} where
       tab_same m (λ k. f (suc (n + k))) (λ k. f (suc n + k)) (λ k h. ap f (omega arith)) in
       rw (suc-add n m)
       (ap (λ (t : List A). f 0 ∷ t) (tab_from_shift 0 (n + m) f ∙ tab_add n m (λ k. f (suc k)) ∙ rw (tab_from_shift 0 n f, s)))
+
+pub map_tab_from : {A B : Type 0} (g : A → B) (from n : ℕ) (f : ℕ → A) → map g (tab_from from n f) ≡ tab_from from n (λ k. g (f k))
+map_tab_from g from zero f = refl
+map_tab_from {B = B} g from (suc n) f = ap (λ (l : List B). g (f from) ∷ l) (map_tab_from g (suc from) n f)

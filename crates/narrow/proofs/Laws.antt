@@ -8,15 +8,14 @@ use native.Mathlib.Omega.{arith}
 use lib.Ieee.{Float, nan, binary32, of_bits, to_bits}
 use lib.ListN.{length, take, replicate, length-append, length-drop, length-replicate}
 use lib.Seq.{take_at}
-use Rattle.lists.proofs.Tab.{length_tab_from, get_or_tab}
 use Rattle.lists.proofs.Grid.{row_column}
-use Rattle.rank.proofs.Members.{entry_has}
+use Rattle.rank.proofs.Members.{tab_has}
 use Rattle.binary32.specs.Binary32.{unit}
 use Rattle.board.specs.Screen.{packed, view}
 use Rattle.board.specs.Planes.{all_units}
 use Rattle.board.specs.Inner.{FitPlanes}
 use Rattle.board.proofs.Packed.{length_packed, packed_units}
-use Rattle.narrow.specs.Narrow.{block, median, narrowed, narrow}
+use Rattle.narrow.specs.Narrow.{median, narrowed, narrow}
 use Rattle.narrow.proofs.Block.{unit_at, block_lt}
 
 -- the middle one of a block is one of it
@@ -24,12 +23,8 @@ median_has : (P : Float → Type 0) (f : ℕ) → 0 < f → (a : ℕ → ℕ →
     ((u v : ℕ) → u < f → v < f → P (a (i * f + u) (j * f + v))) → P (median f a i j)
 unfolding median
 median_has P f l a i j h =
-    let n : length (block f a i j) ≡ f * f = length_tab_from 0 (f * f) _ in
-    entry_has (to_bits binary32) nan P (block f a i j) (f * f / 2) (omega (arith, n, mul-pos l l))
-    (λ k b.
-    let below : k < f * f = omega (arith, n) in
-    let at = row_column f f k below in
-    rw (get_or_tab (f * f) k (λ k. a (i * f + k / f) (j * f + k % f)) nan below) (h (k / f) (k % f) at.0 at.1))
+    tab_has (to_bits binary32) nan P (f * f) (f * f / 2) (λ k. a (i * f + k / f) (j * f + k % f)) (omega (arith, mul-pos l l))
+    (λ k b. let at = row_column f f k b in h (k / f) (k % f) at.0 at.1)
 
 pub smaller : (f h w : ℕ) → h / f * (w / f) ≤ h * w
 smaller f h w = mul-le-mul (div-le_self h f) (div-le_self w f)

@@ -1,7 +1,8 @@
 -- For the code alone, which lays the blocks of m neighbouring points of a row side by side, a list each (crate select): all of their
 -- values are among the planes, and each stands in its list. No contract of an entry point reaches these.
 use Rattle.std.specs.Prelude.{ℕ, ◌+◌, ◌*◌, ◌≤◌, ◌<◌, ◌≡◌, List, Float, length, get_or}
-use Rattle.std.specs.Float.{nan}
+use Rattle.std.specs.Float.{nan, binary32}
+use Rattle.std.specs.Float.Ieee.{to_bits}
 use Rattle.lists.specs.Tab.{tab}
 use Rattle.binary32.specs.Inner.{IsUnit}
 use Rattle.select.specs.Inner.{list_count, list_of}
@@ -30,10 +31,12 @@ pub record PointsIn (s : Screen) (k i j m : ℕ) : Type 0 where
   pub few : m ≤ list_count
   pub columns : j + m ≤ s.width
 
--- all rows of the blocks are there, the first value at `at`
-abbrev pub Reached : ℕ → ℕ → ℕ → ℕ → List Float → Type 0
-Reached f m width at planes = (u : ℕ) → u < f → at + u * width + m * f ≤ length planes
+-- all rows of the blocks are there, the first value at `at`, and the values are units
+pub record Reached (f m width at : ℕ) (planes : List Float) : Type 0 where
+  pub there : (u : ℕ) → u < f → at + u * width + m * f ≤ length planes
+  pub units : (u v l : ℕ) → u < f → v < f → l < m → IsUnit (get_or planes (at + u * width + l * f + v) nan)
 
--- the blocks of m points stand in the lists, those of point l in list l
-pub record Gathered (f m width at : ℕ) (planes : List Float) (x : List (List Float)) : Type 0 where
-  pub here : (u v l : ℕ) → u < f → v < f → l < m → list_of x l (u * f + v) ≡ get_or planes (at + u * width + l * f + v) nan
+-- the blocks of m points stand in the lists by their bits, those of point l in list l
+pub record Gathered (f m width at : ℕ) (planes : List Float) (x : List (List ℕ)) : Type 0 where
+  pub here : (u v l : ℕ) → u < f → v < f → l < m
+      → list_of x l (u * f + v) ≡ to_bits binary32 (get_or planes (at + u * width + l * f + v) nan)

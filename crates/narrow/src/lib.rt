@@ -1,6 +1,6 @@
 // Narrowing by a factor f from 2 to 5 (01, "Narrowing"; 02, R-1): each point of a narrowed plane is the median of its f by f block.
 // Definitions: specs/Narrow; specs/Inner is for the inner functions. Laws for callers: proofs/Laws. It asks for planes that are fit, of
-// any sides up to the largest: the order of units is that of their bits, so that it can pick by comparison. The blocks of several
+// any sides up to the largest: the order of units is that of their bits, so that it can pick by comparing bits. The blocks of several
 // points of a row are picked from at once, a list each (crate select).
 #![tactic(auto)]
 
@@ -22,17 +22,17 @@ use select::LIST_COUNT;
 // The number of values of the largest block.
 const ROOM: usize = Board::MOST_FACTOR * Board::MOST_FACTOR;
 
-// Room for such blocks, a list each.
-type Lists = [[f32; LIST_COUNT]; ROOM];
+// Room for such blocks, a list each, of the bits of their values.
+type Lists = [[u32; LIST_COUNT]; ROOM];
 
-// The blocks of m neighbouring points, the first value at `at`: a list each, and nothing is said of the lists beyond. The factor is a
-// constant, so that the compiler takes the values of neighbouring points apart several at a time.
+// The bits of the blocks of m neighbouring points, the first value at `at`: a list each, and nothing is said of the lists beyond. The
+// factor is a constant, so that the compiler takes the values of neighbouring points apart several at a time.
 fn gather_by<const F: usize>(
     planes: &[f32],
     at: usize,
     width: usize,
     m: usize,
-    x: &mut [[f32; LIST_COUNT]],
+    x: &mut [[u32; LIST_COUNT]],
 )
     requires { Reached F m width at planes.now × (m ≤ list_count) × (F * F ≤ length x.old) }
     ensures { Gathered F m width at planes.now x.new }
@@ -40,7 +40,7 @@ fn gather_by<const F: usize>(
     for u in 0..F {
         for l in 0..m {
             for v in 0..F {
-                x[u * F + v][l] = planes[at + u * width + l * F + v];
+                x[u * F + v][l] = planes[at + u * width + l * F + v].to_bits();
             }
         }
     }
@@ -111,7 +111,7 @@ fn narrow_planes(factor: Factor, height: usize, width: usize, planes: &mut [f32]
     let rows = height / f;
     let columns = width / f;
     let band = f * width;
-    let mut x: Lists = [[0.0; LIST_COUNT]; ROOM];
+    let mut x: Lists = [[0; LIST_COUNT]; ROOM];
     for r in 0..3 * rows {
         let blocks = Blocks {
             factor,

@@ -1,4 +1,5 @@
 pub mod Counts
 pub mod Entry
+pub mod Keys
 pub mod Members
 pub mod Sorted

@@ -6,6 +6,8 @@ use mathlib.Core.List.{List, [], ◌∷◌}
 use native.Mathlib.Omega.{arith}
 use lib.Dec.{leb}
 use lib.ListN.{length, get_or}
+use Rattle.lists.specs.Tab.{tab}
+use Rattle.lists.proofs.Tab.{length_tab_from, get_or_tab}
 use Rattle.rank.specs.Rank.{insert, sort, entry}
 
 module _ {A : Type 0} (key : A → ℕ) where
@@ -57,3 +59,11 @@ module _ {A : Type 0} (key : A → ℕ) (P : A → Type 0) where
 pub entry_has : {A : Type 0} (key : A → ℕ) (d : A) (P : A → Type 0) (l : List A) (j : ℕ) → j < length l →
     ((k : ℕ) → k < length l → P (get_or l k d)) → P (entry key d l j)
 entry_has key d P l j h p = entry_each key P d l j (each_of P l d p) h
+
+-- and of a list that is given by its rule
+pub tab_has : {A : Type 0} (key : A → ℕ) (d : A) (P : A → Type 0) (n j : ℕ) (f : ℕ → A) → j < n → ((k : ℕ) → k < n → P (f k))
+    → P (entry key d (tab n f) j)
+tab_has key d P n j f h p =
+    let long = length_tab_from 0 n f in
+    entry_has key d P (tab n f) j (omega (arith, long))
+    (λ k l. let below : k < n = omega (arith, long) in rw (get_or_tab n k f d below) (p k below))

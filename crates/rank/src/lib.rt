@@ -1,5 +1,5 @@
 // Entry j of a list sorted rising, found by counting: no sort, no copy. Definitions: specs/Rank.
-// Laws for callers: proofs/Entry, proofs/Members, proofs/Counts.
+// Laws for callers: proofs/Entry, proofs/Members, proofs/Counts, proofs/Keys.
 #![tactic(auto)]
 
 ghost use Rattle.std.specs.Prelude.{◌≡◌, ◌≤◌, ◌^◌, length};

@@ -1,41 +1,32 @@
 -- The middle entry of a list of any length by passes. A pass drops one value below the entry asked for and one above, since its window
 -- has more values than stand on either side: whether more than n / 2 - t of what is left after t passes are at most v stays the same.
 -- Assumes nothing.
-use Prim.Native.Nat.{ℕ, zero, suc, min, ◌+◌, ◌-◌, ◌*◌, ◌/◌, ◌≤◌, ◌<◌}
-use mathlib.Core.Path.{◌≡◌, refl, sym, ap, ◌∙◌}
+use Prim.Native.Nat.{ℕ, min, ◌+◌, ◌-◌, ◌*◌, ◌/◌, ◌≤◌, ◌<◌}
+use mathlib.Core.Path.{◌≡◌, refl, sym, ◌∙◌}
 use mathlib.Core.Bool.{Bool, true, false, ◌&&◌}
-use mathlib.Core.List.{List}
 use mathlib.Core.Logic.{⊎_elim, ◌⊎◌, inl, inr}
 use native.Mathlib.Nat.{eq-or-lt_of_le}
 use native.Mathlib.Omega.{arith}
 use borrow.Author.Tests.{ltb-true, ltb-false, lt-ltb, le-ltb}
-use lib.Dec.{T, ltb}
-use lib.Ieee.{Float, nan, binary32, fits, of_bits}
-use lib.Ieee.Bits.{of_bits-to_bits}
-use lib.ListN.{length}
+use lib.Dec.{ltb}
 use Rattle.lists.specs.Picture.{bit}
-use Rattle.lists.specs.Tab.{tab_from, tab}
+use Rattle.lists.specs.Tab.{tab}
 use Rattle.lists.proofs.Tab.{length_tab_from}
-use Rattle.rank.specs.Rank.{entry}
-use Rattle.rank.specs.Inner.{count_at_most}
+use Rattle.rank.specs.Rank.{self}
 use Rattle.rank.proofs.Entry.{entry_key}
-use Rattle.rank.proofs.Members.{Each, entry_each}
-use Rattle.binary32.specs.Binary32.{larger}
-use Rattle.binary32.specs.Inner.{IsUnit}
-use Rattle.binary32.proofs.Units.{larger_unit}
-use Rattle.select.specs.Inner.{median_of, chosen, many, UnitsIn, Dropped}
-use Rattle.select.proofs.Counts.{key, under, many_le, many_add, many_one, many_two, many_same, under_larger}
+use Rattle.rank.proofs.Members.{tab_has}
+use Rattle.select.specs.Inner.{middle_of, chosen, many, Dropped}
+use Rattle.select.proofs.Counts.{under, many_le, many_add, many_one, many_two, many_same, under_max}
 
 -- after t passes the entry asked for is entry n / 2 - t of the values from 2 t on
-pub record Left (n t : ℕ) (p q : ℕ → Float) : Type 0 where
-  pub units : UnitsIn (2 * t) n q
+pub record Left (n t : ℕ) (p q : ℕ → ℕ) : Type 0 where
   rank : (v : ℕ) → ltb (n / 2 - t) (many v (2 * t) (n - 2 * t) q) ≡ ltb (n / 2) (many v 0 n p)
 
-pub left_none : {n : ℕ} {p : ℕ → Float} → UnitsIn 0 n p → Left n 0 p p
-left_none {n} u =
+pub left_none : {n : ℕ} {p : ℕ → ℕ} → Left n 0 p p
+left_none {n} =
     let a : n / 2 - 0 ≡ n / 2 = omega arith in
     let b : n - 2 * 0 ≡ n = omega arith in
-    record { units = λ k l g. u k (omega arith) g; rank = λ v. rw (a, b) }
+    record { rank = λ v. rw (a, b) }
 
 drop_two : (r w u d : ℕ) → u ≤ r → r + 1 ≤ d → w ≤ d + 2 → ltb (r + 1) (w + u) ≡ ltb r (min (w - 1) d + u)
 drop_two r w u d a b c = go (ltb (r + 1) (w + u)) refl
@@ -45,7 +36,7 @@ drop_two r w u d a b c = go (ltb (r + 1) (w + u)) refl
     go false e = sym (le-ltb r (min (w - 1) d + u) (omega (arith, ltb-false (r + 1) (w + u) e)))
 
 -- a window of d + 2 values, and m behind it
-left_rank : (v s d e m r : ℕ) (p q : ℕ → Float) → e ≡ s + 2 + d → m ≤ r → r + 1 ≤ d
+left_rank : (v s d e m r : ℕ) (p q : ℕ → ℕ) → e ≡ s + 2 + d → m ≤ r → r + 1 ≤ d
     → many v (s + 2) d q ≡ min (many v s (d + 2) p - 1) d → ((k : ℕ) → e ≤ k → q k ≡ p k)
     → ltb (r + 1) (many v s (d + 2 + m) p) ≡ ltb r (many v (s + 2) (d + m) q)
 left_rank v s d e m r p q h a b c same =
@@ -80,11 +71,10 @@ window n t l =
       wide = omega arith;
     }
 
-pub left_more : {n t : ℕ} {p q q' : ℕ → Float} → t < (n - 1) / 2 → Left n t p q → Dropped (2 * t) (n / 2 + 2 + t) q q'
+pub left_more : {n t : ℕ} {p q q' : ℕ → ℕ} → t < (n - 1) / 2 → Left n t p q → Dropped (2 * t) (n / 2 + 2 + t) q q'
     → Left n (t + 1) p q'
 left_more {n} {t} {p} {q} {q'} l L P =
     record {
-      units = λ k a b. unit k a b (ltb k (n / 2 + 2 + t)) refl;
       rank = λ v.
           let w = window n t l in
           let c =
@@ -93,29 +83,8 @@ left_more {n} {t} {p} {q} {q'} l L P =
           P.beyond in
           rw (w.next, w.after) (sym c ∙ rw (← w.rank, ← w.before) (L.rank v));
     }
-  where
-    unit : (k : ℕ) → 2 * (t + 1) ≤ k → k < n → (w : Bool) → ltb k (n / 2 + 2 + t) ≡ w → IsUnit (q' k)
-    unit k a b true x = P.units k (omega arith) (ltb-true k (n / 2 + 2 + t) x)
-    unit k a b false x = rw (P.beyond k (ltb-false k (n / 2 + 2 + t) x)) (L.units k (omega arith) b)
 
 -- ---- what is left in the end
-
-abbrev Fits : Float → Type 0
-Fits x = T (fits binary32 x)
-
-fits_tab : (from m : ℕ) (p : ℕ → Float) → UnitsIn from (from + m) p → Each Fits (tab_from from m p)
-fits_tab from zero p u = tt
-fits_tab from (suc m) p u =
-    ((u from (omega arith) (omega arith)).fit, fits_tab (suc from) m p (λ k a b. u k (omega arith) (omega arith)))
-
--- a value is entry j if it is at most v exactly where more than j entries are
-is_entry : (x : Float) (l : List Float) (j : ℕ) → Fits x → Each Fits l → j < length l
-    → ((v : ℕ) → under v x ≡ ltb j (count_at_most key v l))
-    → x ≡ entry key nan l j
-is_entry x l j f e h t =
-    sym (of_bits-to_bits binary32 x f)
-    ∙ ap (of_bits binary32) (entry_key key nan x l j h t)
-    ∙ of_bits-to_bits binary32 (entry key nan l j) (entry_each key Fits nan l j e h)
 
 last_one : (a : Bool) → (a && a) ≡ ltb 0 (bit a)
 last_one true = refl
@@ -138,17 +107,18 @@ ending n z =
     (eq-or-lt_of_le {n = 2 * ((n - 1) / 2)} {m = n - 1} (omega arith))
 
 -- the larger of them
-last_is : (v n s : ℕ) (q : ℕ → Float) → Ends n s 1 ⊎ Ends n s 2
+last_is : (v n s : ℕ) (q : ℕ → ℕ) → Ends n s 1 ⊎ Ends n s 2
     → (under v (q s) && under v (q (n - 1))) ≡ ltb (n - s - 1) (many v s (n - s) q)
 last_is v n s q (inl e) = let z : s + 0 ≡ s = omega arith in rw (e.last, e.size_is, z, many_one v s q) (last_one (under v (q s)))
 last_is v n s q (inr e) = rw (e.last, e.size_is, many_two v s q) (last_two (under v (q s)) (under v (q (s + 1))))
 
-pub left_all : {n : ℕ} {p q : ℕ → Float} → 0 < n → UnitsIn 0 n p → Left n ((n - 1) / 2) p q → chosen n q ≡ median_of n p
-left_all {n} {p} {q} z u L =
+pub left_all : {n : ℕ} {p q : ℕ → ℕ} → 0 < n → Left n ((n - 1) / 2) p q → chosen n q ≡ middle_of n p
+left_all {n} {p} {q} z L =
     let s = 2 * ((n - 1) / 2) in
-    let S = L.units s (omega arith) (omega arith) in
-    let N = L.units (n - 1) (omega arith) (omega arith) in
     let r : n / 2 - (n - 1) / 2 ≡ n - s - 1 = omega arith in
-    is_entry (larger (q s) (q (n - 1))) (tab n p) (n / 2) (larger_unit S N).fit (fits_tab 0 n p (λ k a b. u k a (omega arith)))
-    (omega (arith, length_tab_from 0 n p))
-    (λ v. under_larger v S N ∙ last_is v n s q (ending n z) ∙ rw (← r) (L.rank v))
+    entry_key self 0 (chosen n q) (tab n p) (n / 2) (omega (arith, length_tab_from 0 n p))
+    (λ v. under_max v (q s) (q (n - 1)) ∙ last_is v n s q (ending n z) ∙ rw (← r) (L.rank v))
+
+-- what bounds the values bounds the middle one
+pub middle_le : (b : ℕ) {n : ℕ} {p : ℕ → ℕ} → 0 < n → ((k : ℕ) → k < n → p k ≤ b) → middle_of n p ≤ b
+middle_le b {n} {p} z h = tab_has self 0 (λ (x : ℕ). x ≤ b) n (n / 2) p (omega arith) h

@@ -1,18 +1,12 @@
 -- One pass over a window of a list takes out a smallest and a largest value, as seen by how many are at most v (`Dropped`). Seen at v a
 -- value is a test, the smaller of two is `or`, the larger is `and`. Assumes nothing.
-use Prim.Native.Nat.{ℕ, min, ◌+◌, ◌-◌, ◌≤◌, ◌<◌}
+use Prim.Native.Nat.{ℕ, min, max, ◌+◌, ◌-◌, ◌≤◌, ◌<◌}
 use mathlib.Core.Path.{◌≡◌, refl, ap, ◌∙◌}
 use mathlib.Core.Bool.{Bool, true, false, ◌&&◌, ◌||◌}
-use mathlib.Core.Logic.{⊎_elim}
-use native.Mathlib.Nat.{eq-or-lt_of_le}
 use native.Mathlib.Omega.{arith}
-use lib.Ieee.{Float}
 use Rattle.lists.specs.Picture.{bit}
-use Rattle.binary32.specs.Binary32.{larger}
-use Rattle.binary32.specs.Inner.{lesser, IsUnit}
-use Rattle.binary32.proofs.Units.{lesser_unit, larger_unit}
-use Rattle.select.specs.Inner.{many, UnitsIn, Dropped, between, highest}
-use Rattle.select.proofs.Counts.{under, many_le, many_two, many_next, many_same, under_lesser, under_larger}
+use Rattle.select.specs.Inner.{many, Dropped, between, highest}
+use Rattle.select.proofs.Counts.{under, many_le, many_two, many_next, many_same, under_min, under_max}
 
 -- of `size` values w are at most v: the smallest where a, the largest where b, and c of the others
 abbrev Split : ℕ → Bool → Bool → ℕ → ℕ → Type 0
@@ -44,41 +38,26 @@ split_rest d c w false true s h = absurd s
 split_rest d c w false false s h = omega (arith, s.0, s.1)
 
 -- the list p from s on, after d values beyond the first two: a smallest a, a largest b, and the list q
-pub record Sifting (s d : ℕ) (p : ℕ → Float) (a b : Float) (q : ℕ → Float) : Type 0 where
-  low_unit : IsUnit a
-  high_unit : IsUnit b
-  units : UnitsIn (s + 2) (s + 2 + d) q
+pub record Sifting (s d : ℕ) (p : ℕ → ℕ) (a b : ℕ) (q : ℕ → ℕ) : Type 0 where
   rest : (k : ℕ) → s + 2 + d ≤ k → q k ≡ p k
   split : (v : ℕ) → Split (d + 2) (under v a) (under v b) (many v (s + 2) d q) (many v s (d + 2) p)
 
-pub sifting_none : {s : ℕ} {p : ℕ → Float} {a b : Float} → IsUnit (p s) → IsUnit (p (s + 1)) → a ≡ lesser (p s) (p (s + 1))
-    → b ≡ larger (p s) (p (s + 1))
-    → Sifting s 0 p a b p
-sifting_none {s} {p} U W A B =
-    rw (A, B)
+pub sifting_none : {s : ℕ} {p : ℕ → ℕ} {a b : ℕ} → a ≡ min (p s) (p (s + 1)) → b ≡ max (p s) (p (s + 1)) → Sifting s 0 p a b p
+sifting_none {s} {p} A B =
     record {
-      low_unit = lesser_unit U W;
-      high_unit = larger_unit U W;
-      units = λ k l g. absurd (omega arith);
       rest = λ k l. refl;
-      split = λ v. rw (under_lesser v U W, under_larger v U W, many_two v s p) (split_two (under v (p s)) (under v (p (s + 1))));
+      split = λ v.
+          rw (A, B, under_min v (p s) (p (s + 1)), under_max v (p s) (p (s + 1)), many_two v s p)
+          (split_two (under v (p s)) (under v (p (s + 1))));
     }
 
-pub sifting_more : {s d : ℕ} {p q q' : ℕ → Float} {a b a' b' : Float} (k : ℕ) → k ≡ s + 2 + d → Sifting s d p a b q → IsUnit (p k)
-    → a' ≡ lesser a (q k) → b' ≡ highest a b (q k) → q' k ≡ between a b (q k) → ((j : ℕ) → j < k → q' j ≡ q j)
-    → ((j : ℕ) → k < j → q' j ≡ q j)
+pub sifting_more : {s d : ℕ} {p q q' : ℕ → ℕ} {a b a' b' : ℕ} (k : ℕ) → k ≡ s + 2 + d → Sifting s d p a b q → a' ≡ min a (q k)
+    → b' ≡ highest a b (q k) → q' k ≡ between a b (q k) → ((j : ℕ) → j < k → q' j ≡ q j) → ((j : ℕ) → k < j → q' j ≡ q j)
     → Sifting s (d + 1) p a' b' q'
-sifting_more {s} {d} {p} {q} {q'} {a} {b} k e S P A B C before behind =
+sifting_more {s} {d} {p} {q} {q'} {a} {b} k e S A B C before behind =
     let same : q k ≡ p k = S.rest k (omega arith) in
-    let U : IsUnit (q k) = rw same P in
-    let t = larger_unit S.low_unit U in
+    let t = max a (q k) in
     record {
-      low_unit = rw A (lesser_unit S.low_unit U);
-      high_unit = rw B (larger_unit S.high_unit t);
-      units = λ j l g.
-          ⊎_elim (λ (f : j ≡ k). rw (f, C) (lesser_unit S.high_unit t))
-          (λ (f : j < k). rw (before j f) (S.units j l (omega arith)))
-          (eq-or-lt_of_le {n = j} {m = k} (omega arith));
       rest = λ j l. behind j (omega arith) ∙ S.rest j (omega arith);
       split = λ v.
           let c : many v (s + 2) (d + 1) q' ≡ many v (s + 2) d q + bit (under v (q' k)) =
@@ -87,18 +66,17 @@ sifting_more {s} {d} {p} {q} {q'} {a} {b} k e S P A B C before behind =
           let z : d + 1 + 2 ≡ d + 2 + 1 = omega arith in
           let w : many v s (d + 2 + 1) p ≡ many v s (d + 2) p + bit (under v (q k)) =
           many_next v s (d + 2) k p (omega arith) ∙ rw same in
-          rw (z, c, w, A, B, C, under_lesser v S.low_unit U, under_larger v S.high_unit t)
-          (rw (under_lesser v S.high_unit t, under_larger v S.low_unit U)
+          rw (z, c, w, A, B, C, under_min v a (q k), under_max v b t)
+          (rw (under_min v b t, under_max v a (q k))
           (split_more (d + 2) (many v (s + 2) d q) (many v s (d + 2) p) (under v a) (under v b) (under v (q k)) (S.split v)));
     }
 
-pub sifting_all : {s d e : ℕ} {p q : ℕ → Float} {a b : Float} → e ≡ s + 2 + d → Sifting s d p a b q → Dropped s e p q
+pub sifting_all : {s d e : ℕ} {p q : ℕ → ℕ} {a b : ℕ} → e ≡ s + 2 + d → Sifting s d p a b q → Dropped s e p q
 sifting_all {s} {d} {e} {p} {q} {a} {b} h S =
     let m : e - (s + 2) ≡ d = omega arith in
     let n : e - s ≡ d + 2 = omega arith in
     record {
       beyond = λ k l. S.rest k (omega arith);
-      units = λ k l g. S.units k l (omega arith);
       counts = λ v.
           rw (m, n)
           (split_rest d (many v (s + 2) d q) (many v s (d + 2) p) (under v a) (under v b) (S.split v) (many_le v (s + 2) d q));

@@ -6,11 +6,9 @@ pub loop-t-init : goal.loop-t-init
 loop-t-init c = search (rules, left_none)
 
 pub loop-t-preserved : goal.loop-t-preserved
-loop-t-preserved c = λ l h u.
-    let L = c.loop-t.invariant l h u in
-    left_more (omega arith) L (c.pass.ensures l h (λ k a b. L.units k a (omega arith)))
+loop-t-preserved c = λ l h. left_more (omega arith) (c.loop-t.invariant l h) (c.pass.ensures l h)
 
 pub returns : goal.returns
-returns c = λ l h u.
+returns c = λ l h.
     let all : c.loop-t.t ≡ (length c.args.x.now - 1) / 2 = omega arith in
-    left_all c.requires u (rw all at (c.loop-t.invariant l h u))
+    left_all c.requires (rw all at (c.loop-t.invariant l h))
