@@ -1,5 +1,5 @@
 -- Sums in lanes tell whether values are numbers: a sum with a NaN in it is one, and the sum of units is none. Assumes nothing.
-use Rattle.std.proofs.Common.{◌≡◌, ◌∙◌, refl, sym, ap, ℕ, zero, suc, ◌+◌, ◌*◌, ◌/◌, ◌%◌, ◌<◌, Bool, true, false, not, T, ltb, List, Float, length, get_or, arith, ⊎_elim, eq-or-lt_of_le}
+use Rattle.std.proofs.Common.{◌≡◌, refl, ap, ℕ, zero, suc, ◌+◌, ◌*◌, ◌/◌, ◌%◌, ◌<◌, Bool, true, false, not, T, ltb, List, Float, length, get_or, arith, ⊎_elim, eq-or-lt_of_le}
 use mathlib.Core.Bool.{false≢true}
 use Rattle.std.specs.Bool.{MatchBool}
 use Rattle.std.specs.List.{AllWithin, HoldsAt}
@@ -35,14 +35,14 @@ sum_number f zero h = tt
 sum_number f (suc n) h = add_number (lane_sum f n) (f n) (sum_number f n (λ k l. h k (omega arith))) (unit_finite (f n) (h n (omega arith)))
 
 -- every value lies in a lane
-pub lanes_numbers : (values : List Float) → length values % lanes ≡ 0
+lanes_numbers : (values : List Float) → length values % lanes ≡ 0
     → ((l : ℕ) → l < lanes → Number (lane_sum (lane values l) (length values / lanes))) → AllNumbers values
 lanes_numbers values whole h k k-in =
     let e : k / lanes * lanes + k % lanes ≡ k = omega arith in
     rw e at
     (sum_numbers (lane values (k % lanes)) (length values / lanes) (h (k % lanes) (omega arith)) (k / lanes) (omega arith))
 
-pub lanes_units : (values : List Float) → all_units values ≡ true → (l : ℕ) → l < lanes
+lanes_units : (values : List Float) → all_units values ≡ true → (l : ℕ) → l < lanes
     → Number (lane_sum (lane values l) (length values / lanes))
 lanes_units values u l l-in =
     sum_number (lane values l) (length values / lanes) (λ k k-in. units_at values (k * lanes + l) u (omega arith))
@@ -69,14 +69,6 @@ searched values sums false whole long are (l, l-in, bad) = (
   λ e. absurd (false≢true e),
   λ u. absurd (no_nan (get_or sums l nan) (rw (are l (omega arith)) (lanes_units values u l (omega arith))) (bad nan)),
 )
-
--- where the search fails, not all values are units
-pub none_units : {u r : Bool} → (u ≡ true → r ≡ true) → r ≡ false → false ≡ u
-none_units {u = true} {r} h e = e' (h refl) e
-  where
-    e' : r ≡ true → r ≡ false → false ≡ true
-    e' p q = sym q ∙ p
-none_units {u = false} h e = refl
 
 -- what is counted is what is no unit
 pub above_one : (x : Float) → bool_byte (ltb 0x3F800000 (to_bits binary32 x)) ≡ bool_byte (not (unit x))

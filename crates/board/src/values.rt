@@ -52,8 +52,7 @@ fn lane_sums(values: &[f32]) -> [f32; LANES]
 // Whether all values of whole rows are numbers: surely where they are units, and surely not where one is none.
 fn are_numbers(values: &[f32]) -> bool
     requires { length values.now % lanes ≡ 0 }
-    ensures numbers { result ≡ true → AllNumbers values.now }
-    ensures units { Spec.all_units values.now ≡ true → result ≡ true }
+    ensures { (result ≡ true → AllNumbers values.now) × (Spec.all_units values.now ≡ true → result ≡ true) }
 {
     lane_sums(values).iter().all(|sum| !sum.is_nan())
 }
