@@ -3,8 +3,7 @@
 // 0 shows), proofs/Units.
 #![tactic(auto)]
 
-ghost use Rattle.std.specs.Prelude.{◌≡◌, not, ◌^◌, ◌≤◌, length, take};
-ghost use Rattle.binary32.specs.Binary32.{unit};
+ghost use Rattle.std.specs.Prelude.{◌≡◌};
 ghost use Rattle.refusal.specs.Refusal.{answer_of};
 ghost use Rattle.board.specs.Board as Spec;
 ghost use Rattle.board.specs.Board.{LimitsAre, FactorsAre};
