@@ -4,12 +4,12 @@
 // A lane's state is 5 and the steps so far, less the least cost: a set point adds 1, a sideways move takes 1 off, and none falls below 1.
 #![tactic(auto)]
 
-ghost use Rattle.std.specs.Prelude.{◌≡◌, Bool, ℕ, ◌≤◌, ◌<◌, ◌+◌, ◌*◌, ◌-◌, max, length, get_or};
+ghost use Rattle.std.specs.Prelude.{◌≡◌, ℕ, ◌≤◌, ◌<◌, ◌+◌, ◌*◌, ◌-◌, max, length, get_or};
 ghost use Rattle.lists.specs.Tab.{tab};
 ghost use Rattle.lists.specs.Picture.{points};
 ghost use Rattle.lanes.specs.Walk.{apart};
 ghost use Rattle.lanes.specs.Score.{at, onward, score};
-ghost use Rattle.lanes.specs.Inner.{Marks, LanesHold, Below, unset, Pointed, Advanced, lanes_of, Stored, Swept, swept_scores};
+ghost use Rattle.lanes.specs.Inner.{Marks, LanesHold, Below, unset, Pointed, Advanced, lanes_of, Stored, swept_scores};
 
 // One row of a strip: its five points lie `across` apart, the first at `at`.
 #[derive(Clone, Copy)]

@@ -5,7 +5,6 @@
 
 ghost use Rattle.std.specs.Prelude.{◌≡◌, ℕ, ◌+◌, ◌*◌, ◌≤◌, ◌<◌, ◌&&◌, length, get_or};
 ghost use Rattle.lists.specs.Front.{AtFront};
-ghost use Rattle.lists.specs.Inner.{Placed};
 ghost use Rattle.lists.specs.Tab.{tab, grid};
 ghost use Rattle.refusal.specs.Refusal.{answer_of};
 ghost use Rattle.sample.specs.Sample as Spec;

@@ -7,7 +7,7 @@ ghost use Rattle.lists.specs.Front.{AtFront};
 ghost use Rattle.lists.specs.Picture.{points};
 ghost use Rattle.lanes.specs.Inner.{swept_scores};
 ghost use Rattle.strips.specs.Strip.{column_scores, row_scores};
-ghost use Rattle.strips.specs.Inner.{place_count, Scorable, two_scores, bordered, RowTurned, RowsTurned, Turned};
+ghost use Rattle.strips.specs.Inner.{place_count, Scorable, two_scores, bordered, RowsTurned, Turned};
 
 use board::Bounds;
 use lanes::Picture;
