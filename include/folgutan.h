@@ -272,7 +272,7 @@ folgutan_reading folgutan_read_line(const uint32_t *list, size_t list_len,
  *   largest, FOLGUTAN_MOST_CELL_VALUES values.
  *
  * Each call reads all planes for FOLGUTAN_BAD_VALUE, whatever the size of the
- * cell: one pass over the planes (1 to 2 ms at 1920 by 1080).
+ * cell: one pass over the planes (3 to 4 ms at 1920 by 1080).
  *
  * FOLGUTAN_DONE: the first 3 * size * size entries of out are written, and
  *   those further on keep their content.
@@ -324,7 +324,8 @@ typedef struct {
  *   offsets, pitches and the counts r and c are taken; r_2 and c_2 are not
  *   looked at. With board.r 0 the text is the first two lines, with board.c 0
  *   each board row is 80 spaces.
- * planes: as locating leaves them. They are read once for FOLGUTAN_BAD_VALUE.
+ * planes: as locating leaves them. They are checked for FOLGUTAN_BAD_VALUE
+ *   once, which takes nearly all the time of a call.
  * out: with digits(n) the decimal digits of n, 13 + digits(board.r) + 1 +
  *   digits(board.c) + 1 + 81 * board.r bytes, at most FOLGUTAN_MOST_MAP.
  *
