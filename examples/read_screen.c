@@ -121,6 +121,44 @@ static int print_map(folgutan_board board, const float *planes, size_t planes_le
     return 0;
 }
 
+/* Samples one point of each cell: all in one call, which reads the planes once,
+ * or, where a cell is off the picture, each by itself. 0 where that is so of it. */
+static void sample_cells(folgutan_board board, const float *planes, size_t planes_len, float *cells,
+                         int *there)
+{
+    size_t count = board.r * board.c;
+    uint32_t answer = folgutan_sample_board(board, planes, planes_len, 1, cells, 3 * count);
+    for (size_t n = 0; n < count; n++) {
+        there[n] = answer == FOLGUTAN_DONE;
+        if (answer == FOLGUTAN_OUTSIDE)
+            there[n] = folgutan_sample(board, planes, planes_len, n / board.c, n % board.c, 1,
+                                       cells + 3 * n, 3)
+                       == FOLGUTAN_DONE;
+    }
+}
+
+/* Prints the middle of each cell in plane 1, or ? off the picture. */
+static void print_cells(folgutan_board board, const float *planes, size_t planes_len)
+{
+    size_t count = board.r * board.c;
+    float *cells = calloc(3 * count + 1, sizeof *cells);
+    int *there = calloc(count + 1, sizeof *there);
+    if (cells != NULL && there != NULL) {
+        sample_cells(board, planes, planes_len, cells, there);
+        for (size_t n = 0; n < count; n++) {
+            if (there[n])
+                printf("%.2f", cells[3 * n + 1]);
+            else
+                printf("?");
+            printf((n + 1) % board.c == 0 ? "\n" : " ");
+        }
+    } else {
+        fprintf(stderr, "no memory for the cells\n");
+    }
+    free(there);
+    free(cells);
+}
+
 /* The factor that the Rust original narrows by. */
 enum { FACTOR = 3 };
 
@@ -146,17 +184,7 @@ static int print_board(folgutan_board board, float *planes, size_t planes_len)
                    l.board.r0, l.board.c0);
             printf("pitches: %.2f down with %u votes, %.2f across with %u votes\n", l.board.pixelr,
                    (unsigned)l.votesr, l.board.pixelc, (unsigned)l.votesc);
-            for (size_t x = 0; x < l.board.r; x++) {
-                for (size_t y = 0; y < l.board.c; y++) {
-                    float cell[3] = {0, 0, 0};
-                    uint32_t answer = folgutan_sample(l.board, planes, planes_len, x, y, 1, cell, 3);
-                    if (answer == FOLGUTAN_DONE)
-                        printf(y ? " %.2f" : "%.2f", cell[1]);
-                    else
-                        printf(y ? " ?" : "?");
-                }
-                printf("\n");
-            }
+            print_cells(l.board, planes, planes_len);
             found = print_map(l.board, planes, planes_len);
         }
     } else {

@@ -47,9 +47,10 @@ extern "C" {
 #define FOLGUTAN_MOST_SCORE 4096
 
 /* Limits of sampling: both pitches, the numbers of a cell, the record's corner
- * and offsets, the size of a sampled cell, and how many values it has (02,
- * R-2): an output of FOLGUTAN_MOST_CELL_VALUES entries, 1728, is never too
- * short. */
+ * and offsets, of a board that is sampled whole also its counts, the size of a
+ * sampled cell, and how many values it has (02, R-2): an output of
+ * FOLGUTAN_MOST_CELL_VALUES entries, 1728, is never too short for
+ * folgutan_sample. */
 #define FOLGUTAN_LEAST_PITCH 8.0f
 #define FOLGUTAN_MOST_PITCH 200.0f
 #define FOLGUTAN_MOST_NUMBER 4096
@@ -272,7 +273,8 @@ folgutan_reading folgutan_read_line(const uint32_t *list, size_t list_len,
  *   largest, FOLGUTAN_MOST_CELL_VALUES values.
  *
  * Each call reads all planes for FOLGUTAN_BAD_VALUE, whatever the size of the
- * cell: one pass over the planes (3 to 4 ms at 1920 by 1080).
+ * cell: one pass over the planes (3 to 4 ms at 1920 by 1080). All cells of a
+ * board take one such pass by folgutan_sample_board.
  *
  * FOLGUTAN_DONE: the first 3 * size * size entries of out are written, and
  *   those further on keep their content.
@@ -294,6 +296,38 @@ uint32_t folgutan_sample(folgutan_board board,
                          const float *planes, size_t planes_len,
                          size_t x, size_t y, size_t size,
                          float *out, size_t out_len);
+
+/* Samples every cell of a board: each as folgutan_sample gives it, with one
+ * check of the planes.
+ *
+ * board, planes: as for folgutan_sample.
+ * out: 3 * board.r * board.c * size * size values: the cells one after another,
+ *   rows first, each of 3 * size * size values: cell (x, y) begins at
+ *   (x * board.c + y) * 3 * size * size. At size 0, and of a board without rows
+ *   or without columns, there is no value, and nothing is written; all checks
+ *   are made, but no cell is there to be refused.
+ *
+ * FOLGUTAN_DONE: the first 3 * board.r * board.c * size * size entries of out
+ *   are written, and those further on keep their content.
+ * Refusals, the first that holds:
+ *   FOLGUTAN_BAD_SIDE     board.height or board.width is outside 4 to 4096
+ *   FOLGUTAN_SHORT_SLICE  planes_len is below 3 * height * width
+ *   FOLGUTAN_BAD_VALUE    one of these plane values is not 0.0 to 1.0, or is
+ *                         -0.0
+ *   FOLGUTAN_BAD_PITCH    pixelr or pixelc is not 8.0 to 200.0
+ *   FOLGUTAN_BAD_NUMBER   r_1, c_1, r0, c0, r or c is above 4096, or size above
+ *                         24
+ *   FOLGUTAN_SHORT_SLICE  out_len is below 3 * board.r * board.c * size * size
+ *   FOLGUTAN_OUTSIDE      a sampled row or column of some cell is not in the
+ *                         picture, which can be so of a located record. Which
+ *                         cell it is, the answer does not tell. Rows and columns
+ *                         grow with the cell's x and y: with smaller counts the
+ *                         cells that are in the picture are sampled
+ *   Then nothing is written. */
+uint32_t folgutan_sample_board(folgutan_board board,
+                               const float *planes, size_t planes_len,
+                               size_t size,
+                               float *out, size_t out_len);
 
 /* What printing hands back. */
 typedef struct {

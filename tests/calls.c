@@ -10,7 +10,8 @@
 measures measured[CALLS] = {
     [LOAD] = {.name = "load"},           [GRADIENT] = {.name = "gradient"},
     [LOCATE] = {.name = "locate"},       [READ_LINE] = {.name = "read_line"},
-    [SAMPLE] = {.name = "sample"},       [MAP] = {.name = "map"},
+    [SAMPLE] = {.name = "sample"},       [SAMPLE_BOARD] = {.name = "sample_board"},
+    [MAP] = {.name = "map"},
 };
 
 void clear_answers(void)
@@ -163,6 +164,23 @@ uint32_t measured_sample(folgutan_board board, const float *planes, size_t plane
                      .size = size, .out = out, .out_len = out_len};
     measure(SAMPLE, run_sample, &c);
     count(SAMPLE, c.answer);
+    return c.answer;
+}
+
+static void run_sample_board(void *with)
+{
+    sample_call *c = with;
+    c->answer =
+        folgutan_sample_board(c->board, c->planes, c->planes_len, c->size, c->out, c->out_len);
+}
+
+uint32_t measured_sample_board(folgutan_board board, const float *planes, size_t planes_len,
+                               size_t size, float *out, size_t out_len)
+{
+    sample_call c = {.board = board, .planes = planes, .planes_len = planes_len, .size = size,
+                     .out = out, .out_len = out_len};
+    measure(SAMPLE_BOARD, run_sample_board, &c);
+    count(SAMPLE_BOARD, c.answer);
     return c.answer;
 }
 

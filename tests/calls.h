@@ -19,6 +19,8 @@ folgutan_reading measured_read_line(const uint32_t *list, size_t list_len, uint3
                                     size_t scratch_len);
 uint32_t measured_sample(folgutan_board board, const float *planes, size_t planes_len, size_t x,
                          size_t y, size_t size, float *out, size_t out_len);
+uint32_t measured_sample_board(folgutan_board board, const float *planes, size_t planes_len,
+                               size_t size, float *out, size_t out_len);
 folgutan_printed measured_map(folgutan_board board, const float *planes, size_t planes_len,
                               uint8_t *out, size_t out_len);
 
@@ -29,6 +31,7 @@ folgutan_printed measured_map(folgutan_board board, const float *planes, size_t 
 #define folgutan_locate measured_locate
 #define folgutan_read_line measured_read_line
 #define folgutan_sample measured_sample
+#define folgutan_sample_board measured_sample_board
 #define folgutan_map measured_map
 #endif
 
@@ -41,7 +44,7 @@ typedef struct {
     unsigned long answers[ANSWERS];
 } measures;
 
-enum { LOAD, GRADIENT, LOCATE, READ_LINE, SAMPLE, MAP, CALLS };
+enum { LOAD, GRADIENT, LOCATE, READ_LINE, SAMPLE, SAMPLE_BOARD, MAP, CALLS };
 extern measures measured[CALLS];
 
 void clear_answers(void);

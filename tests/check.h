@@ -61,6 +61,7 @@ void test_gradient(void);
 void test_locate(void);
 void test_read_line(void);
 void test_sample(void);
+void test_sample_board(void);
 void test_map(void);
 
 #endif

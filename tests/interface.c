@@ -175,6 +175,7 @@ static const struct {
     {LOCATE, test_locate, "0 1 3 4 5 6 7 8 9 13"},
     {READ_LINE, test_read_line, "0 1 3 6 7 11"},
     {SAMPLE, test_sample, "0 1 3 4 10 11 12 14"},
+    {SAMPLE_BOARD, test_sample_board, "0 1 3 4 10 11 12"},
     {MAP, test_map, "0 1 3 4 10 11 15"},
 };
 

@@ -8,6 +8,7 @@ pub mod map;
 pub mod narrow;
 pub mod read_line;
 pub mod sample;
+pub mod sample_board;
 pub mod scores;
 pub mod screen;
 
@@ -83,6 +84,14 @@ pub fn run(only: Option<&str>) {
         );
         map::measure(height, width).iter().for_each(printed);
     }
+    if wanted("sample_board") {
+        println!();
+        println!(
+            "{:<14} {:>32} {:>16} {:>16} {:>10} {:>8}",
+            "operation", "input", "planes alone ms", "cells alone ms", "port ms", "ratio"
+        );
+        sample_board::measure(height, width).iter().for_each(sampled);
+    }
 }
 
 /// The least times of the Rust and of the port.
@@ -143,6 +152,21 @@ fn printed(map: &map::Map) {
         "map",
         ms(map.pass),
         ms(map.call)
+    );
+}
+
+/// A line of the table of whole boards: the ratio is that of the time beyond the pass to the cells by themselves.
+fn sampled(whole: &sample_board::Whole) {
+    let ms = |time: Duration| time.as_secs_f64() * 1e3;
+    let beyond = whole.call.saturating_sub(whole.pass);
+    println!(
+        "{:<14} {:>32} {:>16.3} {:>16.3} {:>10.3} {:>8.3}",
+        "sample_board",
+        whole.input,
+        ms(whole.pass),
+        ms(whole.cells),
+        ms(whole.call),
+        ms(beyond) / ms(whole.cells)
     );
 }
 

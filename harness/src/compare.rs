@@ -13,6 +13,7 @@ mod met;
 pub mod narrow;
 pub mod read_line;
 pub mod sample;
+pub mod sample_board;
 mod values;
 
 /// How far a run goes. Two runs with the same seed compare the same cases.
@@ -65,6 +66,7 @@ pub const OPERATIONS: &[(&str, fn(&Run) -> Outcome)] = &[
     ("scores", bounds::scores),
     ("read_line", read_line::compare),
     ("sample", sample::compare),
+    ("sample_board", sample_board::compare),
     ("map", map::compare),
     ("locate", locate::compare),
 ];

@@ -159,6 +159,14 @@ mod linked {
             out: *mut f32,
             out_len: usize,
         ) -> u32;
+        pub fn folgutan_sample_board(
+            board: Board,
+            planes: *const f32,
+            planes_len: usize,
+            size: usize,
+            out: *mut f32,
+            out_len: usize,
+        ) -> u32;
         pub fn folgutan_map(
             board: Board,
             planes: *const f32,
@@ -316,6 +324,19 @@ pub fn sample(
             planes.len(),
             x,
             y,
+            size,
+            out.as_mut_ptr(),
+            out.len(),
+        )
+    }
+}
+
+pub fn sample_board(board: Board, planes: &[f32], size: usize, out: &mut [f32]) -> u32 {
+    unsafe {
+        linked::folgutan_sample_board(
+            board,
+            planes.as_ptr(),
+            planes.len(),
             size,
             out.as_mut_ptr(),
             out.len(),

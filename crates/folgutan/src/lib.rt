@@ -9,6 +9,7 @@ ghost use Rattle.locate.specs.Locate.{lent, LocateGives};
 ghost use Rattle.locate.specs.Promise.{Promise};
 ghost use Rattle.locate.specs.Corners.{CornersHold};
 ghost use Rattle.sample.specs.Sample.{SampleGives};
+ghost use Rattle.cells.specs.Cells.{BoardGives};
 ghost use Rattle.map.specs.Map.{MapGives};
 
 use board::Board;
@@ -89,6 +90,18 @@ pub extern "C" fn folgutan_sample(
     ensures { SampleGives b planes.now x y size out.old result out.new }
 {
     refusal::answer_of(sample::extra_save_cell(b, planes, x, y, size, out))
+}
+
+#[unsafe(no_mangle)]
+pub extern "C" fn folgutan_sample_board(
+    b: Board,
+    planes: &[f32],
+    size: usize,
+    out: &mut [f32],
+) -> u32
+    ensures { BoardGives b planes.now size out.old result out.new }
+{
+    refusal::answer_of(cells::sample_board(b, planes, size, out))
 }
 
 #[unsafe(no_mangle)]

@@ -3,3 +3,4 @@ pub mod Front
 pub mod Picture
 pub mod Tab
 pub mod Inner
+pub mod Turn

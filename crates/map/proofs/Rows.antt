@@ -7,13 +7,14 @@ use native.Mathlib.Omega.{arith}
 use lib.Ieee.{Float}
 use lib.ListN.{length, get_or, replicate, length-append, length-replicate}
 use Rattle.lists.specs.Tab.{tab, tab_from}
+use Rattle.lists.specs.Turn.{in_turn}
 use Rattle.lists.proofs.Tab.{length_tab_from, tab_same}
 use Rattle.text.specs.Inner.{Puts}
 use Rattle.text.specs.Text.{decimal, following, numbers_line}
 use Rattle.text.proofs.Writing.{puts_join, Partly, partly_none, partly_room, partly_more}
 use Rattle.board.specs.declared.Board.{Board}
 use Rattle.sample.specs.Sample.{row_at, column_at}
-use Rattle.map.specs.Map.{line_width, mark_at, cell_mark, names_line, row_line, in_turn, map_text}
+use Rattle.map.specs.Map.{line_width, mark_at, cell_mark, names_line, row_line, map_text}
 use Rattle.map.specs.Inner.{text_length}
 
 module _ (b : Board) (planes : List Float) where

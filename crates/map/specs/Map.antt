@@ -6,6 +6,7 @@ use Rattle.std.specs.Float.Ieee.{add, mul, of_bits, fits}
 use Rattle.binary32.specs.Binary32.{unit, trunc}
 use Rattle.lists.specs.Front.{AtFront}
 use Rattle.lists.specs.Tab.{tab}
+use Rattle.lists.specs.Turn.{in_turn}
 use Rattle.text.specs.Text.{numbers_line}
 use Rattle.board.specs.declared.Board.{Board}
 use Rattle.board.specs.Screen.{view}
@@ -53,11 +54,6 @@ names_line = 114 ∷ 111 ∷ 119 ∷ 115 ∷ 32 ∷ 99 ∷ 111 ∷ 108 ∷ 117 �
 -- a board row: its marks, spaces at the right up to 80 characters, and a line feed
 unfoldable pub row_line : Board → List Float → ℕ → List ℕ
 row_line b planes x = tab b.c (cell_mark b planes x) ++ (replicate (line_width - b.c) 32 ++ (10 ∷ []))
-
--- lines one after another
-abbrev pub in_turn : List (List ℕ) → List ℕ
-in_turn [] = []
-in_turn (line ∷ lines) = line ++ in_turn lines
 
 -- the names, the two values, and the board rows
 unfoldable pub map_text : Board → List Float → List ℕ

@@ -3,7 +3,8 @@ ghost use Rattle.std.specs.Prelude.{◌≡◌, ℕ, ◌+◌, ◌*◌, ◌≤◌,
 ghost use Rattle.lists.specs.Tab.{tab};
 ghost use Rattle.text.specs.Inner.{Puts};
 ghost use Rattle.sample.specs.Sample.{column_at};
-ghost use Rattle.map.specs.Map.{line_width, mark_at, row_line, in_turn, map_text};
+ghost use Rattle.lists.specs.Turn.{in_turn};
+ghost use Rattle.map.specs.Map.{line_width, mark_at, row_line, map_text};
 ghost use Rattle.map.specs.Inner.{Printable};
 
 use crate::LINE_WIDTH;

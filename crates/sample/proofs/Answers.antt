@@ -21,7 +21,7 @@ use Rattle.board.proofs.Sides.{passed}
 use Rattle.board.specs.Planes.{planes_answer}
 use Rattle.sample.specs.Inner.{RecordIn, AxisIn, CellGives}
 use Rattle.sample.specs.Sample.{most_number, row_at, column_at, pitch_outside, corner_above, record_answer, all_below, numbers_above}
-use Rattle.sample.specs.Sample.{on_board, cell, cell_answer, sample_answer, SampleGives, most_cell_values}
+use Rattle.sample.specs.Sample.{in_picture, on_board, cell, cell_answer, sample_answer, SampleGives, most_cell_values}
 
 -- two rules that agree below n
 pub all_below_same : (f g : ℕ → ℕ) (limit n : ℕ) → ((i : ℕ) → i < n → f i ≡ g i) → all_below f limit n ≡ all_below g limit n
@@ -142,7 +142,7 @@ cell_in b x y size room e =
 -- where record and numbers pass and the cell is on the board, the places decide
 pub decided : (b : Board) (x y size room : ℕ) → record_answer b ≡ 0 → numbers_above x y size ≡ false → on_board b x y ≡ true
     → 3 * (size * size) ≤ room
-    → cell_answer b x y size room ≡ cond (all_below (row_at b x size) b.height size && all_below (column_at b y size) b.width size) 0 12
+    → cell_answer b x y size room ≡ cond (in_picture b x y size) 0 12
 unfolding cell_answer
 decided b x y size room r n c o = rw (r, n, c, le-ltb _ _ o)
 

@@ -1,5 +1,5 @@
 -- What a record and planes that are fit for sampling show, and that sampling them is left to the cell. Assumes nothing.
-use Rattle.std.proofs.Common.{◌≡◌, ℕ, ◌*◌, ◌≤◌, Bool, true, false, cond, ◌&&◌, eqb, List, Float, refl, le-ltb}
+use Rattle.std.proofs.Common.{◌≡◌, ℕ, ◌*◌, ◌≤◌, Bool, true, false, cond, eqb, List, Float, refl, le-ltb}
 use borrow.Author.Tests.{eqb-true}
 use Rattle.board.specs.declared.Board.{Board}
 use Rattle.board.specs.Board.{most_size, least_plane_side}
@@ -7,7 +7,7 @@ use Rattle.board.specs.Planes.{planes_answer}
 use Rattle.board.specs.Inner.{FitPlanes}
 use Rattle.board.proofs.Planes.{planes_fit}
 use Rattle.sample.specs.Inner.{RecordIn}
-use Rattle.sample.specs.Sample.{most_number, record_answer, numbers_above, on_board, all_below, row_at, column_at, cell_answer}
+use Rattle.sample.specs.Sample.{most_number, record_answer, numbers_above, on_board, in_picture, cell_answer}
 use Rattle.sample.specs.Sample.{sample_answer}
 use Rattle.sample.specs.Fit.{fit_answer}
 use Rattle.sample.proofs.Answers.{passed_both, record_in, decided}
@@ -29,7 +29,7 @@ fit_shown b planes e =
 pub fit_sampled : (b : Board) (planes : List Float) (x y size room : ℕ) → fit_answer b planes ≡ 0 → x ≤ most_number → y ≤ most_number
     → size ≤ most_size → on_board b x y ≡ true → 3 * (size * size) ≤ room
     → sample_answer b planes x y size room
-    ≡ cond (all_below (row_at b x size) b.height size && all_below (column_at b y size) b.width size) 0 12
+    ≡ cond (in_picture b x y size) 0 12
 unfolding sample_answer numbers_above
 fit_sampled b planes x y size room e x-in y-in size-in on long =
     let p = fit_told b planes e in

@@ -1,4 +1,4 @@
--- What sampling decides from record and planes alone, in its order: 02, R-6, refuses with it before all else.
+-- What sampling decides from record and planes alone, in its order: sampling a whole board, and 02, R-6, refuse with it before all else.
 use Rattle.std.specs.Prelude.{ℕ, false, cond, List, eqb, Float}
 use Rattle.board.specs.declared.Board.{Board}
 use Rattle.board.specs.Board.{least_plane_side}

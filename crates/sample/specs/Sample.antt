@@ -42,6 +42,10 @@ abbrev pub all_below : (ℕ → ℕ) → ℕ → ℕ → Bool
 all_below f limit zero = true
 all_below f limit (suc n) = all_below f limit n && ltb (f n) limit
 
+-- all places of a cell are in the picture
+abbrev pub in_picture : Board → ℕ → ℕ → ℕ → Bool
+in_picture b x y size = all_below (row_at b x size) b.height size && all_below (column_at b y size) b.width size
+
 -- 4,096: the most that a cell's numbers and a record's corner and offset may be
 abbrev pub most_number : ℕ
 most_number = 4096
@@ -72,7 +76,7 @@ cell_answer b x y size room =
     (cond (numbers_above x y size) 11
     (cond (not (on_board b x y)) 14
     (cond (ltb room (3 * (size * size))) 3
-    (cond (all_below (row_at b x size) b.height size && all_below (column_at b y size) b.width size) 0 12))))
+    (cond (in_picture b x y size) 0 12))))
     a
 
 -- the answer of a call, on any planes

@@ -8,7 +8,7 @@ ghost use Rattle.lists.specs.Front.{AtFront};
 ghost use Rattle.lists.specs.Tab.{tab, grid};
 ghost use Rattle.refusal.specs.Refusal.{answer_of};
 ghost use Rattle.sample.specs.Sample as Spec;
-ghost use Rattle.sample.specs.Sample.{corner_above, record_answer, row_at, column_at, all_below, cell, cell_answer, SampleGives};
+ghost use Rattle.sample.specs.Sample.{corner_above, record_answer, cell, cell_answer, SampleGives};
 ghost use Rattle.sample.specs.Fit.{fit_answer};
 ghost use Rattle.sample.specs.Inner.{CellGives, AxisIn, row_value, plane_value};
 
@@ -69,9 +69,9 @@ fn on_board(b: Board, x: usize, y: usize) -> bool
 }
 
 // Whether all places of a cell are in the picture.
-fn in_picture(b: Board, x: usize, y: usize, size: usize) -> bool
+pub fn in_picture(b: Board, x: usize, y: usize, size: usize) -> bool
     requires { AxisIn b.r_1 b.r0 x size × AxisIn b.c_1 b.c0 y size }
-    ensures { result ≡ (all_below (row_at b x size) b.height size && all_below (column_at b y size) b.width size) }
+    ensures { result ≡ Spec.in_picture b x y size }
 {
     Axis::rows(b, x, size).inside(b.height) && Axis::columns(b, y, size).inside(b.width)
 }
@@ -124,7 +124,7 @@ fn copy_plane(plane: &[f32], width: usize, rows: &[usize], columns: &[usize], ou
 }
 
 // The three planes of a cell whose places are in the picture.
-fn copy_cell(b: Board, planes: &[f32], x: usize, y: usize, size: usize, out: &mut [f32])
+pub fn copy_cell(b: Board, planes: &[f32], x: usize, y: usize, size: usize, out: &mut [f32])
     requires planes_there { 3 * (b.height * b.width) ≤ length planes.now }
     requires answered { cell_answer b x y size (length out.old) ≡ 0 }
     ensures { AtFront (cell b planes.now x y size) out.old out.new }
@@ -146,7 +146,7 @@ fn copy_cell(b: Board, planes: &[f32], x: usize, y: usize, size: usize, out: &mu
     }
 }
 
-// A cell, without the check of plane values: a call over many cells could make it once.
+// A cell, without the check of plane values.
 pub fn cell_of(
     b: Board,
     planes: &[f32],

@@ -2,7 +2,8 @@
 use Rattle.std.proofs.Common.{◌-◌}
 use Rattle.lists.specs.Tab.{tab, tab_from}
 use Rattle.text.proofs.Writing.{Partly}
-use Rattle.map.specs.Map.{row_line, in_turn}
+use Rattle.lists.specs.Turn.{in_turn}
+use Rattle.map.specs.Map.{row_line}
 use Rattle.map.proofs.page.Page.put_rows.Given as goal
 
 abbrev pub invariant-loop-x : goal.invariant-loop-x
