@@ -62,6 +62,9 @@ def point(k):
     return list(by_lines(LINES[k]))
 
 
+if sys.argv[1:] in (['-h'], ['--help']):
+    print(__doc__)
+    sys.exit()
 for k in ([int(sys.argv[1])] if sys.argv[1:] else range(1, 9)):
     found = point(k)
     print('point %d: %d places' % (k, len(found)))
