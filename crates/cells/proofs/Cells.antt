@@ -3,7 +3,7 @@
 use Prim.Native.Nat.{ℕ, zero, suc, ◌+◌, ◌*◌, ◌/◌, ◌%◌, ◌≤◌, ◌<◌}
 use mathlib.Core.Path.{◌≡◌, refl, sym, ◌∙◌}
 use mathlib.Core.Bool.{Bool, true, false, cond}
-use mathlib.Core.List.{List, [], ◌∷◌}
+use mathlib.Core.List.{List}
 use native.Mathlib.Nat.{mul-le-mul, mod-lt, mul-zero, zero-mul}
 use Rattle.std.proofs.Math.Nat.{mod-eq_of_lt}
 use native.Mathlib.Omega.{arith}
@@ -13,8 +13,9 @@ use lib.Dec.{ltb}
 use lib.Ieee.{Float}
 use lib.ListN.{length}
 use Rattle.std.specs.List.{list_all}
+use Rattle.std.proofs.lemmas.List.{nil_from_length}
 use Rattle.std.proofs.lemmas.List.Folds.{list_all-append, list_all_at}
-use Rattle.std.proofs.lemmas.Bool.{and_parts, or_parts, true≢false}
+use Rattle.std.proofs.lemmas.Bool.{and_parts, or_parts, true≢false, true_from_ne_false}
 use Rattle.lists.specs.Front.{AtFront}
 use Rattle.lists.specs.Tab.{tab}
 use Rattle.lists.specs.Turn.{in_turn}
@@ -104,11 +105,7 @@ not_within b size n h e =
     (get_or_tab all n (nth_within b size) true h ∙ e)
 
 each_within : (b : Board) (size n : ℕ) → all_in_picture b size ≡ true → n < b.r * b.c → nth_within b size n ≡ true
-each_within b size n e h = go (nth_within b size n) refl
-  where
-    go : (t : Bool) → nth_within b size n ≡ t → t ≡ true
-    go true q = refl
-    go false q = sym (not_within b size n h q) ∙ e
+each_within b size n e h = true_from_ne_false (nth_within b size n) (λ q. true≢false (sym e ∙ not_within b size n h q))
 
 -- the cell in board row n and board column n, both begun anew past the last one
 abbrev pub diagonal : Board → ℕ → ℕ → Bool
@@ -208,16 +205,12 @@ pub cells_length : (b : Board) (planes : List Float) (size : ℕ) → length (ce
 unfolding cells
 cells_length b planes size = length_in_turn (3 * (size * size)) (nth_cell b planes size) (nth_length b planes size) (b.r * b.c)
 
-empty : {A : Type 0} (l : List A) → length l ≡ 0 → l ≡ []
-empty [] e = refl
-empty (x ∷ l) e = absurd (omega (arith, e))
-
 -- cells without values are written at once
 pub no_values : (b : Board) (planes : List Float) (size : ℕ) {before : List Float} → 3 * (size * size) ≡ 0
     → AtFront (cells b planes size) before before
 no_values b planes size e =
     let n : length (cells b planes size) ≡ 0 = cells_length b planes size ∙ rw e (mul-zero (b.r * b.c)) in
-    rw (empty (cells b planes size) n) front_none
+    rw (nil_from_length (cells b planes size) n) front_none
 
 pub all_cells : (b : Board) (planes : List Float) (size n : ℕ) {before after : List Float} → n ≡ b.r * b.c
     → AtFront (in_turn (tab n (nth_cell b planes size))) before after

@@ -83,7 +83,7 @@ fn copy_cells(b: Board, planes: &[f32], size: usize, out: &mut [f32])
 }
 
 // All cells of any record and planes: the cells at the start of `out`, or a refusal and nothing written.
-#[tactic(auto, unfolding(crate::specs::Cells::board_answer), using(crate::proofs::Cells::cells_in, sample::proofs::Fit::fit_shown, sample::proofs::Fit::fit_told))]
+#[tactic(auto, unfolding(crate::specs::Cells::board_answer), using(crate::proofs::Cells::cells_in, sample::proofs::Fit::fit_shown))]
 pub fn sample_board(b: Board, planes: &[f32], size: usize, out: &mut [f32]) -> Result<(), Refusal>
     ensures { BoardGives b planes.now size out.old (answer_of result) out.new }
 {
