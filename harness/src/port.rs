@@ -472,7 +472,7 @@ pub mod inner {
 
     /// The bytes are 0 and 1.
     pub fn column_scores(edges: &[u8], stride: usize, b: Corners, out: &mut [u32]) {
-        assert!(scorable(edges, stride, b) && b.c_2 - b.c_1 <= out.len());
+        assert!(scorable(edges, stride, b) && b.c_2 - b.c_1 < out.len());
         debug_assert!(edges.iter().all(|&e| e <= 1));
         unsafe {
             linked::folgutan_inner_column_scores(
@@ -488,8 +488,8 @@ pub mod inner {
 
     /// The bytes are 0 and 1.
     pub fn row_scores(edges: &[u8], stride: usize, b: Corners, turned: &mut [u8], out: &mut [u32]) {
-        assert!(scorable(edges, stride, b) && b.r_2 - b.r_1 <= out.len());
-        assert!((b.c_2 - b.c_1 + 1) * (b.r_2 - b.r_1) <= turned.len());
+        assert!(scorable(edges, stride, b) && b.r_2 - b.r_1 < out.len());
+        assert!((b.c_2 - b.c_1 + 1) * (b.r_2 - b.r_1 + 1) <= turned.len());
         debug_assert!(edges.iter().all(|&e| e <= 1));
         unsafe {
             linked::folgutan_inner_row_scores(

@@ -29,7 +29,13 @@ pub fn measure(height: usize, width: usize) -> Vec<Whole> {
     out
 }
 
-fn one([height, width]: [usize; 2], planes: &[f32], [r, c]: [usize; 2], pitch: f32, size: usize) -> Whole {
+fn one(
+    [height, width]: [usize; 2],
+    planes: &[f32],
+    [r, c]: [usize; 2],
+    pitch: f32,
+    size: usize,
+) -> Whole {
     let (pixelr, pixelc) = (pitch.to_bits(), pitch.to_bits());
     let board = Board::of(&Record { height, width, r, c, pixelr, pixelc, ..Record::default() });
     let values = 3 * size * size;
@@ -45,7 +51,10 @@ fn one([height, width]: [usize; 2], planes: &[f32], [r, c]: [usize; 2], pitch: f
             check();
             timed(|| {
                 for (n, cell) in alone.chunks_mut(values).enumerate() {
-                    assert_eq!(inner::sample(board, black_box(planes), n / c, n % c, size, cell), 0);
+                    assert_eq!(
+                        inner::sample(board, black_box(planes), n / c, n % c, size, cell),
+                        0
+                    );
                 }
             })
         },

@@ -54,11 +54,8 @@ pub fn compare(run: &Run) -> Outcome {
             cases.one(&call, &[])?;
             let side = rng.pick(&[0, 3, MOST + 1, 1 << 32, usize::MAX]);
             let mut other = call;
-            *(if rng.below(2) == 0 {
-                &mut other.record.height
-            } else {
-                &mut other.record.width
-            }) = side;
+            *(if rng.below(2) == 0 { &mut other.record.height } else { &mut other.record.width }) =
+                side;
             cases.one(&other, &bad)?;
             break_rules(rng, &mut call);
         }
