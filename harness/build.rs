@@ -92,8 +92,28 @@ fn probed(file: &Path) -> PathBuf {
     copy
 }
 
-/// Hands the file's path to src/original.rs, which includes it as it is, and the path of the probed
-/// copy to src/original/probed.rs.
+/// The lines of `get_line` that smooth begin with the first of these, each there once, and end before the second.
+const SMOOTHING: [&str; 2] =
+    ["        let mut xx = vec![0; lenx];\n", "        let mut lines = vec![];\n"];
+
+/// A file in OUT_DIR with these lines as a function of their list.
+fn smoothing(file: &Path) -> PathBuf {
+    let text = fs::read_to_string(file).expect("the Rust original can be read");
+    let [from, to] = SMOOTHING.map(|line| {
+        assert_eq!(text.matches(line).count(), 1, "this line is in the Rust original once: {line}");
+        text.find(line).expect("it is there")
+    });
+    let copy = PathBuf::from(env::var("OUT_DIR").expect("cargo sets it")).join("obr_smoothing.rs");
+    let lines = &text[from..to];
+    let whole = format!(
+        "pub fn smooth(x: &[usize]) -> Vec<usize> {{\n        let lenx = x.len();\n{lines}        xx\n}}\n"
+    );
+    fs::write(&copy, whole).expect("the lines can be written");
+    copy
+}
+
+/// Hands the file's path to src/original.rs, which includes it as it is, the path of the probed
+/// copy to src/original/probed.rs, and that of the lines that smooth to src/original/smoothing.rs.
 fn original(root: &Path) {
     println!("cargo:rerun-if-env-changed=FOLGUTAN_OBR");
     let folder = env::var_os("FOLGUTAN_OBR").map_or(PathBuf::from(USUAL), PathBuf::from);
@@ -107,6 +127,7 @@ fn original(root: &Path) {
     println!("cargo:rerun-if-changed={}", file.display());
     println!("cargo:rustc-env=FOLGUTAN_OBR_FILE={}", file.display());
     println!("cargo:rustc-env=FOLGUTAN_OBR_PROBED={}", probed(&file).display());
+    println!("cargo:rustc-env=FOLGUTAN_OBR_SMOOTHING={}", smoothing(&file).display());
 }
 
 fn port(root: &Path) {

@@ -11,6 +11,7 @@ pub mod sample;
 pub mod sample_board;
 pub mod scores;
 pub mod screen;
+pub mod smooth;
 
 use screen::Kind;
 use std::hint::black_box;
@@ -75,6 +76,14 @@ pub fn run(only: Option<&str>) {
                 call(operation, &input, times);
             }
         }
+    }
+    if wanted("smooth") {
+        let measured = smooth::measure();
+        for (input, times) in &measured {
+            call("smooth", input, *times);
+        }
+        let (rust, port) = smooth::spread(&measured);
+        println!("{:<20} {:>20} {rust:>14.3} {port:>14.3}", "smooth", "largest / smallest");
     }
     if wanted("map") {
         println!();

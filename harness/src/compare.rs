@@ -14,6 +14,7 @@ pub mod narrow;
 pub mod read_line;
 pub mod sample;
 pub mod sample_board;
+pub mod smooth;
 mod values;
 
 /// How far a run goes. Two runs with the same seed compare the same cases.
@@ -64,6 +65,7 @@ pub const OPERATIONS: &[(&str, fn(&Run) -> Outcome)] = &[
     ("bounds", bounds::bounds),
     ("widen", bounds::widen),
     ("scores", bounds::scores),
+    ("smooth", smooth::compare),
     ("read_line", read_line::compare),
     ("sample", sample::compare),
     ("sample_board", sample_board::compare),

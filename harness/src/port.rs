@@ -239,6 +239,12 @@ mod linked {
             out: *mut u32,
             out_len: usize,
         );
+        pub fn folgutan_inner_smooth(
+            list: *const u32,
+            list_len: usize,
+            out: *mut u32,
+            out_len: usize,
+        );
         pub fn folgutan_inner_sample(
             board: Board,
             planes: *const f32,
@@ -502,6 +508,15 @@ pub mod inner {
                 out.as_mut_ptr(),
                 out.len(),
             )
+        }
+    }
+
+    /// No entry of the list is above 4,096.
+    pub fn smooth(list: &[u32], out: &mut [u32]) {
+        assert!((4..=4096).contains(&list.len()) && list.len() <= out.len());
+        debug_assert!(list.iter().all(|&s| s <= 4096));
+        unsafe {
+            linked::folgutan_inner_smooth(list.as_ptr(), list.len(), out.as_mut_ptr(), out.len())
         }
     }
 

@@ -16,6 +16,8 @@ ghost use Rattle.bounds.specs.Bounds as BoundsSpec;
 ghost use Rattle.bounds.specs.Inner.{marks_by};
 ghost use Rattle.strips.specs.Strip.{column_scores, row_scores};
 ghost use Rattle.strips.specs.Inner.{place_count, Scorable};
+ghost use Rattle.lines.specs.Lines.{smooth};
+ghost use Rattle.lines.specs.Inner.{InLimits};
 ghost use Rattle.sample.specs.Inner.{CellGives};
 ghost use Rattle.std.specs.Float.Ieee.{is_nan};
 ghost use Rattle.binary32.specs.Binary32 as Binary32;
@@ -23,6 +25,7 @@ ghost use Rattle.rank.specs.Rank.{self, entry};
 ghost use Rattle.rank.specs.Inner.{count_at_most};
 
 use board::{Board, Bounds, Factor};
+use lines::Small;
 use strips::Region;
 
 #[unsafe(no_mangle)]
@@ -168,6 +171,15 @@ pub extern "C" fn folgutan_inner_row_scores(
         bounds: b,
     };
     region.row_scores(turned, out)
+}
+
+#[unsafe(no_mangle)]
+pub extern "C" fn folgutan_inner_smooth(list: &[u32], out: &mut [u32])
+    requires { InLimits list.now × (length list.now ≤ length out.old) }
+    ensures { AtFront (smooth list.now) out.old out.new }
+{
+    let scores = Small { values: list };
+    scores.smooth_into(out)
 }
 
 #[unsafe(no_mangle)]

@@ -2,7 +2,7 @@
 // Laws for callers: proofs/Laws (the lines rise, two remain after the drops, e is above 5 and at most their extent).
 #![tactic(auto)]
 
-ghost use Rattle.std.specs.Prelude.{◌≡◌, ◌||◌, ◌+◌, ◌≤◌, ◌<◌, min, max, eqb, length, take};
+ghost use Rattle.std.specs.Prelude.{◌≡◌, ◌||◌, ◌+◌, ◌-◌, ◌≤◌, ◌<◌, min, max, eqb, length, take};
 ghost use Rattle.lists.specs.Front.{AtFront};
 ghost use Rattle.rank.specs.Rank as Rank;
 ghost use Rattle.lines.specs.Lines.{largest, smoothed, smooth, line_threshold, entries_before, entries_behind, stands_out};
@@ -29,6 +29,7 @@ pub struct Scores<'a> {
     pub ghost limits: { InLimits values.now },
 }
 
+// It compares: the check for 11 asks it of any numbers, and `excess` is wrong of two that are further apart than 2^31.
 pub fn largest_of(s: &[u32]) -> u32
     ensures { result ≡ largest s.now }
 {
@@ -52,20 +53,32 @@ impl Small<'_> {
 
 // ---- smoothing
 
-// The larger and the smaller of two scores. They are apart from the library's `max` and `min`: those take any numbers, and
-// these two may count on scores of at most 4,096.
+// The binary digit of this power of two in b - a, taken in 32 bits, is 1 where b is below a, and else 0. For scores any power from 8,192
+// on would do; with the highest the compiler shifts, or takes a packed minimum with 0, where with 8,192 it compares again.
+const POWER: u32 = 0x8000_0000;
+
+// By how much a is above b, 0 if it is not. All scores take one way through, without a branch or a comparison, so that smoothing takes
+// as long for any list as for any other of its length.
+fn excess(a: u32, b: u32) -> u32
+    requires { (a ≤ 4096) × (b ≤ 4096) }
+    ensures { result ≡ a - b }
+{
+    let difference = b.wrapping_sub(a);
+    (difference * (difference / POWER % 2)).wrapping_neg()
+}
+
 fn larger_score(a: u32, b: u32) -> u32
     requires { (a ≤ 4096) × (b ≤ 4096) }
     ensures { result ≡ max a b }
 {
-    a.max(b)
+    b + excess(a, b)
 }
 
 fn smaller_score(a: u32, b: u32) -> u32
     requires { (a ≤ 4096) × (b ≤ 4096) }
     ensures { result ≡ min a b }
 {
-    a.min(b)
+    a - excess(a, b)
 }
 
 impl Small<'_> {

@@ -64,7 +64,7 @@ fn built(cases: &mut Cases) -> Result<(), String> {
     Ok(())
 }
 
-fn random(rng: &mut Rng, most: usize) -> Vec<u32> {
+pub(super) fn random(rng: &mut Rng, most: usize) -> Vec<u32> {
     let len = rng.between(4, most);
     if rng.below(2) == 0 {
         noise(rng, len)
@@ -74,7 +74,7 @@ fn random(rng: &mut Rng, most: usize) -> Vec<u32> {
 }
 
 /// Random entries, few values for ties, or plateaus.
-fn noise(rng: &mut Rng, len: usize) -> Vec<u32> {
+pub(super) fn noise(rng: &mut Rng, len: usize) -> Vec<u32> {
     let values = rng.pick(&[2, 3, 5, 50, 4097]);
     let plateau = rng.pick(&[1, 1, 2, 3, 6, 11]);
     let mut out: Vec<u32> = Vec::with_capacity(len + plateau);
@@ -87,7 +87,7 @@ fn noise(rng: &mut Rng, len: usize) -> Vec<u32> {
 }
 
 /// Lines at a pitch with some jitter, first and last ones out of step, over a low ground.
-fn lines(rng: &mut Rng, len: usize) -> Vec<u32> {
+pub(super) fn lines(rng: &mut Rng, len: usize) -> Vec<u32> {
     let ground = rng.pick(&[1, 2, 30, 300]);
     let height = rng.pick(&[10, 300, 4096]);
     let flat = rng.below(2) == 0;
