@@ -58,12 +58,11 @@ pub extern "C" fn folgutan_inner_truncated(x: f32) -> u64
 }
 
 #[unsafe(no_mangle)]
-#[tactic(auto, using(rank::proofs::Entry::entry_or))]
 pub extern "C" fn folgutan_inner_entry(list: &[u32], j: usize, most: u32) -> u32
     requires { (length list.now ≤ 2 ^ 24) × (count_at_most self most list.now ≡ length list.now) }
     ensures { result ≡ entry self 0 list.now j }
 {
-    rank::entry_of(list, j, most).unwrap_or(0)
+    rank::entry_of(list, j, most)
 }
 
 #[unsafe(no_mangle)]

@@ -10,7 +10,6 @@ ghost use Rattle.lines.specs.Lines.{is_line, places_of, lines_of, wide_gaps, cho
 ghost use Rattle.lines.specs.Inner.{InLimits, narrow_at, Remains};
 
 use lists::EqualTo;
-use std::ops::Range;
 
 // No score is above this, and no list longer.
 const MOST: u32 = 4096;
@@ -42,12 +41,12 @@ pub fn largest_of(s: &[u32]) -> u32
 
 impl Small<'_> {
     // Entry j of them sorted rising; 0 where there is none.
-    #[tactic(auto, using(crate::proofs::Entries::exact, rank::proofs::Entry::entry_or))]
+    #[tactic(auto, using(crate::proofs::Entries::exact))]
     fn entry(&self, j: usize) -> u32
         requires { length self.now.values.now ≤ 4096 }
         ensures { result ≡ Rank.entry Rank.self 0 self.now.values.now j }
     {
-        rank::entry_of(self.values, j, MOST).unwrap_or(0)
+        rank::entry_of(self.values, j, MOST)
     }
 }
 
@@ -260,6 +259,13 @@ impl Small<'_> {
 
 // ---- the two drops
 
+// The lines that remain are those from `from` up to `end`.
+#[derive(Clone, Copy)]
+pub struct KeptRange {
+    pub from: usize,
+    pub end: usize,
+}
+
 impl Small<'_> {
     // Of lines: whether there is a gap from entry k to the next, and it is narrow.
     #[tactic(auto, using(crate::proofs::Entries::exact), unfolding(crate::specs::Lines::narrow_gap))]
@@ -271,19 +277,22 @@ impl Small<'_> {
         k + 1 < lines.len() && lines[k + 1].saturating_sub(lines[k]) as f32 <= e as f32 * 0.8
     }
 
-    // Where the lines stand that remain. The first drop tests the first two, the last drop the last two of what that leaves.
+    // The first drop tests the first two, the last drop the last two of what that leaves.
     #[tactic(auto, using(crate::proofs::Drops::both, crate::proofs::Windows::largest_part))]
-    pub fn kept_range(&self, e: u32) -> Range<usize>
+    pub fn kept_range(&self, e: u32) -> KeptRange
         requires { e ≤ 4096 }
-        ensures { Remains e self.now.values.now result.start result.end }
+        ensures { Remains e self.now.values.now result.from result.end }
     {
         let lines = self.values;
-        let start = usize::from(self.narrow_after(0, e));
+        let from = usize::from(self.narrow_after(0, e));
         let rest = Small {
-            values: &lines[start..],
+            values: &lines[from..],
         };
         let before_last = rest.values.len().saturating_sub(2);
         let dropped = usize::from(rest.narrow_after(before_last, e));
-        start..lines.len() - dropped
+        KeptRange {
+            from,
+            end: lines.len() - dropped,
+        }
     }
 }

@@ -3,13 +3,13 @@
 #![tactic(auto)]
 
 ghost use Rattle.std.specs.Prelude.{◌≡◌, ◌≤◌, ◌^◌, length};
-ghost use Rattle.rank.specs.Rank.{self};
+ghost use Rattle.rank.specs.Rank.{self, entry};
 ghost use Rattle.rank.specs.Inner.{count_at_most, entry_at};
 
 use lists::AtMost;
 
 // Entry j of s sorted rising, if there is one, where no entry is above `most`. It halves the range of values.
-pub fn entry_of(s: &[u32], j: usize, most: u32) -> Option<u32>
+pub fn get_entry(s: &[u32], j: usize, most: u32) -> Option<u32>
     requires { (length s.now ≤ 2 ^ 24) × (count_at_most self most s.now ≡ length s.now) }
     ensures { result ≡ entry_at self 0 s.now j }
 {
@@ -27,4 +27,13 @@ pub fn entry_of(s: &[u32], j: usize, most: u32) -> Option<u32>
         }
     }
     Some(lo)
+}
+
+// The same, and 0 where there is no entry j.
+#[tactic(auto, using(crate::proofs::Entry::entry_or))]
+pub fn entry_of(s: &[u32], j: usize, most: u32) -> u32
+    requires { (length s.now ≤ 2 ^ 24) × (count_at_most self most s.now ≡ length s.now) }
+    ensures { result ≡ entry self 0 s.now j }
+{
+    get_entry(s, j, most).unwrap_or(0)
 }

@@ -129,7 +129,7 @@ fn remaining_of(s: &Scores, scratch: &mut [u32], array: &mut [u32]) -> Result<Re
     };
     let kept = lines.kept_range(e);
     Ok(Remaining {
-        from: kept.start,
+        from: kept.from,
         end: kept.end,
         e,
     })

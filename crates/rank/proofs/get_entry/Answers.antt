@@ -1,7 +1,7 @@
 use Rattle.std.proofs.Common.{arith}
 use Rattle.rank.specs.Rank.{self}
 use Rattle.rank.proofs.Entry.{between_all, between_left, between_right}
-use Rattle.rank.proofs.entry_of.Goals as goal
+use Rattle.rank.proofs.get_entry.Goals as goal
 
 pub loop-lo-init : goal.loop-lo-init
 loop-lo-init c = (between_all self 0 _ _ _ c.if-s-j.false c.requires.1, omega arith)

@@ -2,7 +2,7 @@
 use Rattle.std.proofs.Common.{◌-◌, ◌≤◌}
 use Rattle.rank.specs.Rank.{self}
 use Rattle.rank.proofs.Entry.{Between}
-use Rattle.rank.proofs.entry_of.Given as goal
+use Rattle.rank.proofs.get_entry.Given as goal
 
 abbrev pub invariant-loop-lo : goal.invariant-loop-lo
 invariant-loop-lo l = Between self 0 l.s l.j l.lo l.hi × (l.hi ≤ l.most)
