@@ -17,6 +17,7 @@ const LANES: usize = 16;
 const BLOCK: usize = 4096;
 
 // The test for a value that is no unit.
+#[derive(Clone, Copy)]
 struct NoUnit;
 
 impl Test<f32> for NoUnit {

@@ -1,3 +1,4 @@
 pub mod Laws
+pub mod Layouts
 pub mod Scans
 pub mod Widening

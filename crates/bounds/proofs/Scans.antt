@@ -6,7 +6,7 @@ use mathlib.Core.Bool.{Bool, true, false, cond}
 use native.Mathlib.Numerals.{add-one}
 use native.Mathlib.Omega.{arith}
 use borrow.Author.Tests.{leb-false, lt-leb, ltb-true, ne_eqb}
-use lib.Dec.{leb, ltb}
+use lib.Dec.{eqb, leb, ltb}
 use Rattle.std.proofs.Common.{Option, Some, None}
 use Rattle.std.proofs.lemmas.Bool.Decides.{nat_tests}
 use Rattle.std.specs.List.{slice_get, filter, range_with_len}
@@ -17,6 +17,14 @@ use Rattle.bounds.specs.Scan.{seen_at, fifth, jump, skips, move, followed, scann
 -- places left, of hi
 pub left_more : {hi p : ℕ} → p < hi → hi - p ≡ suc (hi - (p + 1))
 left_more h = omega arith
+
+-- points seen one place further on
+module _ (set : ℕ → Bool) where
+  pub seen_more : (k p hi : ℕ) → p < hi →
+      seen_at set k p (hi - p) ≡ cond (set p) (cond (eqb k 0) p (seen_at set (k - 1) (p + 1) (hi - (p + 1))))
+      (seen_at set k (p + 1) (hi - (p + 1)))
+  seen_more zero p hi h = rw (left_more h, add-one p)
+  seen_more (suc k) p hi h = let e : suc k - 1 ≡ k = omega arith in rw (left_more h, add-one p, e, ne_eqb (suc k) 0 (λ q. omega arith))
 
 -- of the set points among n places, the one behind k others is the place that `seen_at` finds
 pub nth_seen : (set : ℕ → Bool) (k from n : ℕ) → slice_get (filter set (range_with_len from n)) k ≡ below (from + n) (seen_at set k from n)
@@ -49,7 +57,7 @@ Falls across m None = Unit
 Falls across m (Some s) = (s.distance < m) × (s.across < across)
 
 module _ (at : ℕ → ℕ → Bool) (lo hi : ℕ) where
-  skips_more : (m skip : ℕ) → skip < 4 →
+  pub skips_more : (m skip : ℕ) → skip < 4 →
       skips at lo hi m skip (4 - skip) ≡ cond (leb m skip) None (jump at lo hi (m - skip) (skips at lo hi m (skip + 1) (4 - (skip + 1))))
   skips_more m skip h = rw (left_more h, add-one skip)
 
@@ -83,7 +91,7 @@ module _ (at : ℕ → ℕ → Bool) (lo hi : ℕ) where
       on f true e = tt
       on f false e = jump_falls w (m - skip) rest (omega (arith, leb-false m skip e)) f
 
-  move_falls : {across p : ℕ} → hi ≤ across → p < across → (m : ℕ) → Falls across m (move at lo hi m p)
+  pub move_falls : {across p : ℕ} → hi ≤ across → p < across → (m : ℕ) → Falls across m (move at lo hi m p)
   move_falls {across} {p} w h zero = tt
   move_falls {across} {p} w h (suc m) = rw (ne_eqb (suc m) 0 (λ q. omega arith)) (on (at p (suc m - 1)))
     where

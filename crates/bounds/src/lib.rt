@@ -14,6 +14,7 @@ ghost use Rattle.bounds.specs.Inner.{seen, marks_by, low, high, Fits, Lies, colu
 ghost use Rattle.bounds.specs.Widen.{second, pair, sum_at, lowered, widened};
 
 use board::Bounds;
+use std::alloc::AllocError;
 
 // The way that a scan goes: towards place 0, or towards the last place.
 #[derive(Clone, Copy, Debug, PartialEq, Eq)]
@@ -81,7 +82,7 @@ struct Layout {
 }
 
 // A picture, whose rows stand `stride` apart in its slice.
-#[derive(Drop)]
+#[derive(Copy)]
 struct Picture<P: Points> {
     points: P,
     row: usize,
@@ -91,11 +92,23 @@ struct Picture<P: Points> {
 }
 
 // A picture seen along one way.
-#[derive(Drop)]
+#[derive(Copy)]
 struct View<P: Points> {
     points: P,
     layout: Layout,
     ghost lies: { Lies layout (length (P.bytes points)) },
+}
+
+impl<P: Points> Clone for Picture<P> {
+    fn clone(&self) -> Result<Self, AllocError> {
+        Ok(*self)
+    }
+}
+
+impl<P: Points> Clone for View<P> {
+    fn clone(&self) -> Result<Self, AllocError> {
+        Ok(*self)
+    }
 }
 
 impl<P: Points> Picture<P> {
@@ -165,9 +178,17 @@ impl<P: Points> View<P> {
         ensures { let l = self.now.layout in
             result ≡ below (high l) (Scan.fifth (seen l (P.bytes self.now.points)) (low l) (high l) m) }
     {
-        (self.layout.across / 3..2 * self.layout.across / 3)
-            .filter(|p| self.is_set(*p, m))
-            .nth(4)
+        // set points to pass before the fifth
+        let mut more: usize = 4;
+        for p in self.layout.across / 3..2 * self.layout.across / 3 {
+            if self.is_set(p, m) {
+                if more == 0 {
+                    return Some(p);
+                }
+                more -= 1;
+            }
+        }
+        None
     }
 
     // The first skip of 1 to 3 from the distance m to five set points.

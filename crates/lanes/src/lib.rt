@@ -129,7 +129,7 @@ impl Lanes {
 }
 
 // The lanes of up to 4096 strips, lane by lane: so the compiler packs the loop over the strips.
-#[derive(Drop)]
+#[derive(Clone, Copy)]
 struct Strips {
     a: [u16; 4096],
     b: [u16; 4096],

@@ -9,7 +9,7 @@ use native.Mathlib.Omega.{arith}
 use lib.ListN.{length, take, drop, get_or, set, replicate, length-set, length-append, length-drop, take-append-drop, get_or-append}
 use lib.ListN.{length-replicate, get_or-replicate, replicate-append-replicate}
 use lib.Seq.{take_at, take-append-le, length-take-le, drop_at, drop-drop, drop-length, drop-append-le}
-use lib.Seq.{set_split, get_or-append-add, get_or-drop}
+use lib.Seq.{take-suc, set_split, get_or-append-add, get_or-drop, get_or-take}
 use borrow.Rule.Slice.PartMut.{mid_of, put_mid, same_len_mid, mid_len}
 use Rattle.lists.specs.Front.{AtFront}
 use Rattle.lists.specs.Inner.{Placed}
@@ -46,6 +46,13 @@ module _ {A : Type 0} where
   pub front_more : (f : ℕ → A) (k : ℕ) {lent out : List A} {v : A} → AtFront (tab k f) lent out → k < length lent → v ≡ f k
       → AtFront (tab (k + 1) f) lent (set out k v)
   front_more f k {v = v} h b e = rw (tab_more k f, ← e) (front_push v k (length_tab_from 0 k f) h b)
+
+  -- the next entry of a part that is copied
+  pub copied_next : (part : List A) (k : ℕ) {lent out : List A} {x : A} → k < length part → x ≡ get_or part k x → k < length lent
+      → AtFront (take k part) lent out → AtFront (take (k + 1) part) lent (set out k x)
+  copied_next part k {x = x} h e b c =
+      let more : take k part ++ (x ∷ []) ≡ take (k + 1) part = rw (e, add-one k) (sym (take-suc part k x h)) in
+      rw (← more) (front_push x k (length-take-le k part (omega arith)) c b)
 
   -- what is read back
   pub front_part : {list lent out : List A} (n : ℕ) → length list ≡ n → AtFront list lent out → take n out ≡ list
@@ -186,6 +193,32 @@ module _ {A : Type 0} where
   -- what is read back
   pub front_here : (z : A) (f : ℕ → A) (n r : ℕ) {lent out : List A} → AtFront (tab n f) lent out → r < n → get_or out r z ≡ f r
   front_here z f n r h b = front_within z r h (omega (arith, length_tab_from 0 n f)) ∙ get_or_tab n r f z b
+
+  placed_whole : {list : List A} {at : ℕ} {lent out : List A} → Placed list at lent out → at ≤ length lent
+      → AtFront (take at lent ++ list) lent out
+  placed_whole {at = at} {lent} x h =
+      let l = length-take-le at lent h in
+      placed_front {text = take at lent} (front_by at l h (sym (take-append-drop at lent))) l x
+
+  module _ (z : A) (value : ℕ → A) (n : ℕ) {at : ℕ} {lent out : List A} (x : Placed (tab n value) at lent out) (h : at ≤ length lent) where
+    long : length (take at lent ++ tab n value) ≡ at + n
+    long = simp length-append (omega (arith, length-take-le at lent h, length_tab_from 0 n value))
+
+    pub placed_before : (r : ℕ) → r < at → get_or out r z ≡ get_or lent r z
+    placed_before r b =
+        front_within z r (placed_whole x h) (omega (arith, long))
+        ∙ get_or-append (take at lent) (tab n value) z r (omega (arith, length-take-le at lent h))
+        ∙ get_or-take at lent r z b
+
+    pub placed_here : (r : ℕ) → r < n → get_or out (at + r) z ≡ value r
+    placed_here r b =
+        front_within z (at + r) (placed_whole x h) (omega (arith, long))
+        ∙ ap (λ (k : ℕ). get_or (take at lent ++ tab n value) (k + r) z) (sym (length-take-le at lent h))
+        ∙ get_or-append-add (take at lent) (tab n value) r z
+        ∙ get_or_tab n r value z b
+
+    pub placed_behind : (r : ℕ) → at + n ≤ r → get_or out r z ≡ get_or lent r z
+    placed_behind r b = front_beyond z r (placed_whole x h) (omega (arith, long))
 
   -- what was placed at the start is at the front
   pub placed_start : {list lent out : List A} → Placed list 0 lent out → AtFront list lent out

@@ -20,7 +20,9 @@ pub fn copy_front<T: Copy>(from: &[T], n: usize, to: &mut [T])
     requires { (n ≤ length from.now) × (n ≤ length to.old) }
     ensures { AtFront (take n from.now) to.old to.new }
 {
-    to[..n].copy_from_slice(&from[..n]);
+    for (k, x) in from[..n].iter().enumerate() {
+        to[k] = *x;
+    }
 }
 
 // What a cleared entry holds.

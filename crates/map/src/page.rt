@@ -2,7 +2,7 @@
 ghost use Rattle.std.specs.Prelude.{◌≡◌, ℕ, ◌+◌, ◌*◌, ◌≤◌, ◌<◌, length, get_or};
 ghost use Rattle.lists.specs.Tab.{tab};
 ghost use Rattle.text.specs.Inner.{Puts};
-ghost use Rattle.sample.specs.Sample.{column_at};
+ghost use Rattle.sample.specs.Sample.{row_at, column_at};
 ghost use Rattle.lists.specs.Turn.{in_turn};
 ghost use Rattle.map.specs.Map.{line_width, mark_at, row_line, map_text};
 ghost use Rattle.map.specs.Inner.{Printable};
@@ -56,6 +56,21 @@ impl Page<'_> {
         at + columns.len()
     }
 
+    // The marks of board row x. Where there are no columns, its place is not worked out.
+    #[tactic(auto, using(text::proofs::Writing::puts_none))]
+    fn put_cells(&self, columns: &[usize], x: usize, out: &mut [u8], at: usize) -> usize
+        requires { (x < self.now.board.r) × (at + length columns.now ≤ length out.old) }
+        ensures { Puts (tab (length columns.now)
+            (λ y. mark_at self.now.board self.now.planes.now (row_at self.now.board x 1 0) (get_or columns.now y 0)))
+            at out.old result out.new }
+    {
+        if columns.is_empty() {
+            return at;
+        }
+        let i = Axis::rows(self.board, x, 1).sampled_at(0);
+        self.put_marks(i, columns, out, at)
+    }
+
     // The line of board row x.
     #[tactic(auto, using(lists::proofs::Tab::length_tab_from))]
     fn put_row(&self, columns: &[usize], x: usize, out: &mut [u8], at: usize) -> usize
@@ -64,8 +79,7 @@ impl Page<'_> {
             × ((y : ℕ) → y < self.now.board.c → get_or columns.now y 0 ≡ column_at self.now.board y 1 0) }
         ensures { Puts (row_line self.now.board self.now.planes.now x) at out.old result out.new }
     {
-        let i = Axis::rows(self.board, x, 1).sampled_at(0);
-        let mut next = self.put_marks(i, columns, out, at);
+        let mut next = self.put_cells(columns, x, out, at);
         next = text::put_spaces(out, next, LINE_WIDTH - columns.len());
         text::put_feed(out, next)
     }

@@ -53,7 +53,7 @@ fn show(rt: &impl Print, l: Located, planes: &[f32]) -> io::Result<()> {
 }
 
 // The largest screen, its planes, and what locating takes beside them.
-#[derive(Drop)]
+#[derive(Clone, Copy)]
 struct Buffers {
     pixels: [u8; 4 * MOST * MOST],
     planes: [f32; 3 * MOST * MOST],

@@ -21,9 +21,10 @@ pub fn put_bytes(out: &mut [u8], at: usize, bytes: &[u8]) -> usize
     requires { at + length bytes.now ≤ length out.old }
     ensures { Puts bytes.now at out.old result out.new }
 {
-    let end = at + bytes.len();
-    out[at..end].copy_from_slice(bytes);
-    end
+    for (k, b) in bytes.iter().enumerate() {
+        out[at + k] = *b;
+    }
+    at + bytes.len()
 }
 
 // A line feed.
@@ -39,9 +40,10 @@ pub fn put_spaces(out: &mut [u8], at: usize, n: usize) -> usize
     requires { at + n ≤ length out.old }
     ensures { Puts (replicate n 32) at out.old result out.new }
 {
-    let end = at + n;
-    out[at..end].fill(b' ');
-    end
+    for k in 0..n {
+        out[at + k] = b' ';
+    }
+    at + n
 }
 
 // The last digit.

@@ -1,18 +1,17 @@
-use Rattle.std.proofs.Common.{◌≡◌, ℕ, refl, sym, ◌∙◌, ◌+◌, ◌-◌, arith, rules}
-use Rattle.std.proofs.lemmas.Iterator.{YieldsList-from_range}
-use Rattle.std.proofs.lemmas.Iterator.Adapters.{option_map_id}
-use Rattle.std.proofs.lemmas.Iterator.Consumers.{YieldsList-from_filter, nth_from_yields_List}
-use Rattle.bounds.specs.Inner.{seen, low, high}
-use Rattle.bounds.proofs.Scans.{nth_seen}
+use Rattle.std.proofs.Common.{ℕ, ◌∙◌, sym, arith}
+use borrow.Author.Tests.{ne_eqb}
+use Rattle.bounds.specs.Inner.{seen}
+use Rattle.bounds.proofs.Scans.{seen_more}
+use Rattle.bounds.proofs.View.fifth.Goals.{then-is_set+else-more-eq0, else-is_set}
 use Rattle.bounds.proofs.View.fifth.Goals as goal
 
-pub returns : goal.returns
-returns g c =
+pub loop-p-preserved : goal.loop-p-preserved
+loop-p-preserved g c =
     let v = c.args.self.now in
-    let lo = low v.layout in
-    let hi = high v.layout in
     let set = λ (p : ℕ). seen v.layout (g.P.Points.bytes v.points) p c.args.m in
-    let all : lo + (hi - lo) ≡ hi = omega arith in
-    sym (option_map_id c.nth.result) ∙ nth_from_yields_List c.nth.result c.nth.new.self 4 c.nth.ensures.ran (
-    YieldsList-from_filter _ set (YieldsList-from_range lo hi (hi - lo) (cc) refl) c.filter.ensures.closure (λ x r q k. search rules)
-    ) ∙ rw all at (nth_seen set 4 lo (hi - lo))
+    let more = c.loop-p.invariant.1 ∙ seen_more set c.loop-p.more c.loop-p.p _ c.loop-p-test.true in
+    let e = c.is_set.ensures in
+    elim c.if-is_set.branch [
+      | then-is_set+else-more-eq0 w ↦ (omega arith, rw w.more-is (rw (sym e ∙ w.if-is_set.true, ne_eqb c.loop-p.more 0 w.if-more-eq0.false) at more))
+      | else-is_set w ↦ (omega arith, rw w.more-is (rw (sym e ∙ w.if-is_set.false) at more))
+    ]

@@ -11,4 +11,4 @@ pub returns : goal.returns
 returns c =
     let known = c.requires.columns_known in
     row_put c.args.self.now.board c.args.self.now.planes.now c.args.x _ c.args.columns.now known.0 c.args.self.now.printable.columns_in c.requires.room.1 (search rules) known.1
-    c.put_marks-next.ensures c.put_spaces-next.ensures c.put_feed.ensures
+    c.put_cells-next.ensures c.put_spaces-next.ensures c.put_feed.ensures
