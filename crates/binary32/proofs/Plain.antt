@@ -90,7 +90,7 @@ lt_le (fin false m e) (inf false) p q = refl
 lt_le (fin false m e) (fin true n d) p q = absurd q
 lt_le (fin false m e) (fin false n d) p q = apart (m * up e * down d) (n * up d * down e)
 
-plain_below : {x y : Float} → Plain x → Plain y → lt x y ≡ ltb (to_bits binary32 x) (to_bits binary32 y)
+pub plain_below : {x y : Float} → Plain x → Plain y → lt x y ≡ ltb (to_bits binary32 x) (to_bits binary32 y)
 plain_below {x} {y} p q =
     lt_le x y p.positive q.positive ∙ ap not (plain_order q p) ∙ sym (not_leb (to_bits binary32 x) (to_bits binary32 y))
 

@@ -1,6 +1,6 @@
 -- Single values: what the tests in the code tell of them, and the magnitude from the bits. Assumes nothing.
-use Rattle.std.proofs.Common.{◌≡◌, ℕ, zero, suc, ◌+◌, ◌%◌, ◌<◌, ◌≤◌, true, false, cond, not, T, pos, refl, mod-eq_of_lt, arith, le-leb}
-use lib.Ieee.{Float, nan, inf, fin, binary32, fits, is_nan, nan_bits, in_float, of_int, of_bits, to_bits, top}
+use Rattle.std.proofs.Common.{◌≡◌, ℕ, zero, suc, ◌+◌, ◌%◌, ◌<◌, ◌≤◌, true, false, cond, not, T, pos, refl, true≢false, mod-eq_of_lt, arith, le-leb}
+use lib.Ieee.{Float, nan, inf, fin, binary32, ne, fits, is_nan, nan_bits, in_float, of_int, of_bits, to_bits, top}
 use lib.Ieee.Exact.{HasValue}
 use lib.Ieee.Back.{round_whole}
 use lib.Ieee.Bits.{of_bits-to_bits, to_bits-lt, nan_bits_is}
@@ -12,6 +12,12 @@ unfolding is_nan to_bits unit
 nan_no_unit nan t = refl
 nan_no_unit (inf s) t = absurd t
 nan_no_unit (fin s m k) t = absurd t
+
+pub no_nan : (x : Float) → ne x x ≡ false → T (not (is_nan x))
+unfolding is_nan ne
+no_nan nan e = absurd (true≢false e)
+no_nan (inf s) e = tt
+no_nan (fin s m k) e = tt
 
 -- whole numbers up to 2 ^ 24 are values: what a cast to binary32 asks
 pub in_float_lem : {n : ℕ} → n ≤ 16777216 → T (in_float binary32 (pos n))

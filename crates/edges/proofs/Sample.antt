@@ -30,7 +30,7 @@ abbrev pub at_place : (ℕ → ℕ → Float) → ℕ → ℕ → Float
 at_place f columns k = f (k / columns) (k % columns)
 
 -- place k, past a whole number of steps of s and within the next, lies in the middle half
-within : (s side i k : ℕ) → 1 ≤ s → i < taken s side → s * i + k % s < middle side
+pub within : (s side i k : ℕ) → 1 ≤ s → i < taken s side → s * i + k % s < middle side
 within s side i k z h =
     let m = middle side in
     let q : (i + 1) * s ≤ taken s side * s = mul-le-mul_right s (omega arith) in
@@ -98,7 +98,7 @@ share : HasValue (of_bits binary32 0x3F0CCCCD) false 9227469 16777216
 unfolding of_bits
 share = (refl, refl)
 
-rank_below : (m : ℕ) → 0 < m → m ≤ 2 ^ 22 → rank_of m < m
+pub rank_below : (m : ℕ) → 0 < m → m ≤ 2 ^ 22 → rank_of m < m
 unfolding rank_of
 rank_below m z h = share_below (of_bits binary32 0x3F0CCCCD) 9227469 16777216 m share (omega arith) (omega arith) z h (omega arith)
 

@@ -41,7 +41,7 @@ sought_is l rank h p =
     ap (to_bits binary32) (clip_bits _ (entry_has (to_bits binary32) nan Plain l rank h p)) ∙ bits_back (clipped b) (omega arith)
 
 -- they are those of a value
-sought_value : (l : List Float) (rank : ℕ) → rank < length l → AllAre Plain l → of_bits binary32 (sought l rank) ≡ clip (ranked l rank)
+pub sought_value : (l : List Float) (rank : ℕ) → rank < length l → AllAre Plain l → of_bits binary32 (sought l rank) ≡ clip (ranked l rank)
 sought_value l rank h p =
     let e = clip_bits _ (entry_has (to_bits binary32) nan Plain l rank h p) in
     ap (of_bits binary32) (sought_is l rank h p) ∙ sym e

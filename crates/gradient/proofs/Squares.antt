@@ -78,11 +78,12 @@ gradient_at_is h w p i j =
 pub record Place (h w i j : ℕ) : Type 0 where
   pub square_in : i * w + j + (2 * w + 2) < h * w
   pub point_in : i * (w - 2) + j < (h - 2) * (w - 2)
+  pub area : h * w ≤ 16777216
 
 pub place : (h w i j : ℕ) → SidesIn least_plane_side h w → i < h - 2 → j < w - 2 → Place h w i j
 place h w i j s a b =
     let d : (i + 2) * w + (j + 2) < h * w = digits_lt (omega arith) (omega arith) in
-    record { square_in = omega (arith, d, add-mul i 2 w); point_in = digits_lt a b }
+    record { square_in = omega (arith, d, add-mul i 2 w); point_in = digits_lt a b; area = s.area }
 
 -- the square at (i, j) of plane k stands among the three planes
 pub square_in : (h w k i j : ℕ) → SidesIn least_plane_side h w → k < 3 → i < h - 2 → j < w - 2

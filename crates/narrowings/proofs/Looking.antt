@@ -10,7 +10,7 @@ use Rattle.lists.specs.Front.{AtFront}
 use Rattle.lists.proofs.Front.{front_fits, front_part}
 use Rattle.gradient.specs.Gradient.{gradients}
 use Rattle.gradient.proofs.Laws.{length_gradients}
-use Rattle.edges.specs.Edges.{threshold, edges}
+use Rattle.edges.specs.Edges.{threshold, marks, edges}
 use Rattle.edges.specs.Inner.{GradientsFit, ByBits}
 use Rattle.edges.proofs.Laws.{length_edges, all_plain}
 use Rattle.board.specs.Board.{least_plane_side}
@@ -22,7 +22,7 @@ use Rattle.bounds.specs.Inner.{marks_by}
 
 module _ (h w : ℕ) (planes : List Float) where
   -- the part of a slice that holds the gradients, and the part that holds the edge picture
-  gradients_part : {before after : List Float} → AtFront (gradients h w planes) before after
+  pub gradients_part : {before after : List Float} → AtFront (gradients h w planes) before after
       → take ((h - 2) * (w - 2)) after ≡ gradients h w planes
   gradients_part x = front_part ((h - 2) * (w - 2)) (length_gradients h w planes) x
 
@@ -58,3 +58,9 @@ module _ (h w : ℕ) (planes : List Float) where
         by_bits = rw part at p;
         bounds_are = rw (part, th, length_gradients h w planes) at is;
       }
+
+  -- the marks of the gradients by their threshold are the edge picture
+  pub edged : {th : Float} {g : List Float} {before after : List ℕ} → g ≡ gradients h w planes
+      → th ≡ threshold (h - 2) (w - 2) (gradients h w planes)
+      → AtFront (marks th (length g) g) before after → AtFront (edges h w planes) before after
+  edged e t x = rw (e, t, length_gradients h w planes) at x

@@ -9,7 +9,8 @@ use native.Mathlib.Omega.{arith}
 use borrow.Author.Tests.{leb-false, lt-ltb}
 use lib.Dec.{leb, ltb}
 use lib.Ieee.{Float}
-use lib.ListN.{length}
+use lib.ListN.{length, take}
+use Rattle.lists.specs.Front.{AtFront}
 use Rattle.board.specs.declared.Bounds.{Bounds}
 use Rattle.board.specs.Board.{least_plane_side, least_located}
 use Rattle.board.specs.Inner.{FactorIn, FitPlanes}
@@ -17,13 +18,16 @@ use Rattle.board.proofs.Planes.{fit_lower}
 use Rattle.std.proofs.lemmas.Bool.{or_parts}
 use Rattle.narrow.specs.Narrow.{narrow}
 use Rattle.narrow.proofs.Laws.{smaller, narrow_length, narrow_fit}
+use Rattle.gradient.proofs.Laws.{inner_le}
+use Rattle.edges.specs.Edges.{marks}
 use Rattle.bounds.proofs.Laws.{Around, around}
 use Rattle.narrowings.specs.declared.Narrowed.{Narrowed}
-use Rattle.narrowings.specs.Loop.{Stage, staged, first, picture_at, bounds_at, thin, small, next, Last, one_turn, looped, last_of}
+use Rattle.narrowings.specs.Loop.{Stage, staged, first, edges_at, picture_at, bounds_at, thin, small, next, Last, one_turn, looped, last_of}
 use Rattle.narrowings.specs.Inner.{Looks, Narrows}
+use Rattle.narrowings.proofs.Looking.{edged}
 
 -- a picture that is not small
-large : (h w : ℕ) → small h w ≡ false → (67 ≤ h) × (67 ≤ w)
+pub large : (h w : ℕ) → small h w ≡ false → (67 ≤ h) × (67 ≤ w)
 unfolding small
 large h w e =
     let a = or_parts (leb (h - 2) 64) (leb (w - 2) 64) e in
@@ -44,7 +48,7 @@ pub record Sound (least h w long : ℕ) (s : Stage) : Type 0 where
   pub area : s.height * s.width ≤ h * w
   pub long_is : length s.planes ≡ long
 
-sound_first : {least h w : ℕ} {planes : List Float} → FitPlanes least h w planes → Sound least h w (length planes) (first h w planes)
+pub sound_first : {least h w : ℕ} {planes : List Float} → FitPlanes least h w planes → Sound least h w (length planes) (first h w planes)
 sound_first p = record { fit = p; high_h = omega arith; high_w = omega arith; area = omega arith; long_is = refl }
 
 -- the bounds of such a screen lie around its middle
@@ -53,7 +57,7 @@ pub sound_around : {least h w long : ℕ} {s : Stage} → least_plane_side ≤ l
 sound_around {s = s} l p = around (picture_at s) (omega (arith, p.fit.sides.low_h)) (omega (arith, p.fit.sides.low_w))
 
 -- they are in order
-ordered : {least h w long : ℕ} {s : Stage} → least_plane_side ≤ least → Sound least h w long s
+pub ordered : {least h w long : ℕ} {s : Stage} → least_plane_side ≤ least → Sound least h w long s
     → ((bounds_at s).r_1 ≤ (bounds_at s).r_2) × ((bounds_at s).c_1 ≤ (bounds_at s).c_2)
 ordered l p = let a = sound_around l p in (omega (arith, a.rows.low, a.rows.high), omega (arith, a.columns.low, a.columns.high))
 
@@ -65,7 +69,7 @@ pub record Going (f h w : ℕ) (start : List Float) (s : Stage) : Type 0 where
   pub counted : s.narrowed + turns ≡ h
   pub sound : Sound (least_located f) h w (length start) s
 
-going_first : {f h w : ℕ} {planes : List Float} → FitPlanes (least_located f) h w planes → Going f h w planes (first h w planes)
+pub going_first : {f h w : ℕ} {planes : List Float} → FitPlanes (least_located f) h w planes → Going f h w planes (first h w planes)
 unfolding last_of
 going_first {h = h} p = record { turns = h; same = refl; enough = omega arith; counted = omega arith; sound = sound_first p }
 
@@ -82,7 +86,7 @@ module _ (f : ℕ) (i : FactorIn f) where
       }
 
   -- a narrowed side is at least 4: there is an edge picture
-  sound_next : {h w long : ℕ} {s : Stage} → Sound (least_located f) h w long s → Sound least_plane_side h w long (next f s)
+  pub sound_next : {h w long : ℕ} {s : Stage} → Sound (least_located f) h w long s → Sound least_plane_side h w long (next f s)
   sound_next p =
       let s = p.fit.sides in
       let pos : 0 < f = omega (arith, i.low) in
@@ -90,7 +94,7 @@ module _ (f : ℕ) (i : FactorIn f) where
       ((le-div_iff_mul-le pos).1 (omega (arith, s.low_w)))
 
   -- and where it is not small, it can be narrowed again
-  sound_large : {h w long : ℕ} {s : Stage} → Sound (least_located f) h w long s → small (s.height / f) (s.width / f) ≡ false
+  pub sound_large : {h w long : ℕ} {s : Stage} → Sound (least_located f) h w long s → small (s.height / f) (s.width / f) ≡ false
       → Sound (least_located f) h w long (next f s)
   sound_large {s = s} p e =
       let l = large (s.height / f) (s.width / f) e in
@@ -98,7 +102,7 @@ module _ (f : ℕ) (i : FactorIn f) where
 
   -- The induction: what holds of a screen, and passes on to a narrowed one that is not small, holds where the loop
   -- ends well; and that is not thin.
-  ends_well : (P : Stage → Type 0) → ((s : Stage) → P s → small (s.height / f) (s.width / f) ≡ false → P (next f s))
+  pub ends_well : (P : Stage → Type 0) → ((s : Stage) → P s → small (s.height / f) (s.width / f) ≡ false → P (next f s))
       → (turns : ℕ) (s : Stage) → P s → (looped f turns s).too_small ≡ false
       → P (looped f turns s).stage
       × (thin (looped f turns s).stage.height (looped f turns s).stage.width (bounds_at (looped f turns s).stage) ≡ false)
@@ -142,14 +146,14 @@ module _ (f : ℕ) (i : FactorIn f) where
     here : last_of f h w start ≡ one_turn f (looped f some.0) s
     here = rw some.1 at g.same
 
-    going_end : thin s.height s.width (bounds_at s) ≡ false → last_of f h w start ≡ record { stage = s; too_small = false }
+    pub going_end : thin s.height s.width (bounds_at s) ≡ false → last_of f h w start ≡ record { stage = s; too_small = false }
     going_end p = rw p at here
 
-    going_small : thin s.height s.width (bounds_at s) ≡ true → small (s.height / f) (s.width / f) ≡ true
+    pub going_small : thin s.height s.width (bounds_at s) ≡ true → small (s.height / f) (s.width / f) ≡ true
         → last_of f h w start ≡ record { stage = next f s; too_small = true }
     going_small p q = rw (p, q) at here
 
-    going_on : thin s.height s.width (bounds_at s) ≡ true → small (s.height / f) (s.width / f) ≡ false
+    pub going_on : thin s.height s.width (bounds_at s) ≡ true → small (s.height / f) (s.width / f) ≡ false
         → Going f h w start (next f s)
     going_on p q =
         record {
@@ -242,3 +246,18 @@ module _ {f h w : ℕ} {start : List Float} {l : Narrowed} {planes g : List Floa
 
     pub here_on : t.small ≡ false → Here f h w start t planes' g'
     here_on e = record { going = rw stage_now (going_on f i at.going (is_thin thins) (small_now e)); looks = looks_now; not_small = e }
+
+-- ---- the last picture's edges
+
+module _ {h w : ℕ} {last : Last} {r : Narrowed} {planes g : List Float} (n : Narrows h w last r planes g) where
+  -- there is room for them wherever there is room for the first picture
+  pub points_fit : (r.height - 2) * (r.width - 2) ≤ h * w
+  points_fit = omega (arith, inner_le r.height r.width, n.area)
+
+  -- they are drawn from the gradients that the loop leaves, by their threshold
+  pub last_edged : {lent out : List ℕ}
+      → let drawn = take ((r.height - 2) * (r.width - 2)) g in
+      AtFront (marks r.threshold (length drawn) drawn) lent out → AtFront (edges_at last.stage) lent out
+  last_edged x =
+      let s = last.stage in
+      edged s.height s.width s.planes n.looks.gradients_are n.looks.threshold_is (rw (n.height_is, n.width_is) at x)

@@ -2,7 +2,7 @@
 use Prim.Native.Nat.{ℕ, ◌+◌, ◌-◌, ◌*◌, ◌≤◌, ◌<◌}
 use mathlib.Core.Path.{◌≡◌, ap, ◌∙◌}
 use mathlib.Core.List.{List}
-use native.Mathlib.Nat.{mul-le-mul_right, add-mul}
+use native.Mathlib.Nat.{mul-le-mul_left, mul-le-mul_right, add-mul}
 use native.Mathlib.Omega.{arith}
 use borrow.Rule.Slice.PartMut.{mid_of, put_mid, mid_len}
 use lib.ListN.{length}
@@ -16,6 +16,10 @@ pub block_in : (from to r m across last n : ℕ) → from ≤ to → r + m + 3 �
     r * across + from + (m + 4) * across + (to - from + 1) ≤ n + across
 block_in from to r m across last n f h l =
     omega (arith, mul-le-mul_right across h, add-mul (r + m + 3) 1 across, add-mul r (m + 4) across)
+
+-- the scratch of a band of m strips lies within that of n
+pub scratch_in : (k m n len : ℕ) → m + 4 ≤ n → k * n ≤ len → k * (m + 4) ≤ len
+scratch_in k m n len h l = omega (arith, mul-le-mul_left k h)
 
 module _ {A : Type 0} where
   -- the entries from i to `end` by a rule g that counts from their start

@@ -1,13 +1,26 @@
--- The best of a block of the range: blocks are searched one after another in any order, and the best of all is one. Assumes nothing.
-use Prim.Native.Nat.{ℕ, ◌+◌}
+-- The order of choices, and the best of a block of the range: blocks are searched one after another in any order, and the best of all is one. Assumes nothing.
+use Prim.Native.Nat.{ℕ, ◌+◌, ◌≤◌, ◌<◌}
 use mathlib.Core.Path.{◌≡◌}
 use native.Mathlib.Omega.{arith}
 use Rattle.votes.specs.declared.Choice.{Choice}
 use Rattle.votes.specs.Votes.{Ahead}
 use Rattle.votes.specs.Inner.{Block, Picks}
 
+-- the order
+pub ahead_self : (a : Choice) → Ahead a a
+ahead_self a = grind arith
+
+pub ahead_more : {a b : Choice} → b.votes < a.votes → Ahead a b
+ahead_more h = grind arith
+
+pub ahead_tie : {a b : Choice} → b.votes ≤ a.votes → a.offset ≤ b.offset → (b.offset ≡ a.offset → a.quarter ≤ b.quarter) → Ahead a b
+ahead_tie v o q = grind arith
+
+pub ahead_on : (a b c : Choice) → Ahead a b → Ahead b c → Ahead a c
+ahead_on a b c g h = grind arith
+
 -- two choices that are each ahead of the other are one
-ahead_both : (a b : Choice) → Ahead a b → Ahead b a → a ≡ b
+pub ahead_both : (a b : Choice) → Ahead a b → Ahead b a → a ≡ b
 ahead_both a b g h = grind arith
 
 -- the choice of one offset and one q

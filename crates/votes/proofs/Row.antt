@@ -13,7 +13,7 @@ pub votes_of_line_more : (l q n end : ℕ) → n < end → (o : ℕ) →
     votes_of_line l q o n (end - n) ≡ hit l (n * q / 4) o + (hit (l + 1) (n * q / 4) o + votes_of_line l q o (n + 1) (end - (n + 1)))
 votes_of_line_more l q n end h o = let e : end - n ≡ suc (end - (n + 1)) = omega arith in rw (e, add-one n) (omega arith)
 
-turns : (e l y : ℕ) → y ≡ min_pitch e → l ≤ 4095 → l / y + 1 ≤ 512
+pub turns : (e l y : ℕ) → y ≡ min_pitch e → l ≤ 4095 → l / y + 1 ≤ 512
 turns e l y s h = rw add-one ((div-lt_iff_lt-mul {k = y} {x = l} {y = 512} (omega arith)).1 (omega arith))
 
 votes_of_line_few : (l q o from count : ℕ) → votes_of_line l q o from count ≤ 2 * count
