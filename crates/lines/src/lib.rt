@@ -10,6 +10,7 @@ ghost use Rattle.lines.specs.Lines.{is_line, places_of, lines_of, wide_gaps, cho
 ghost use Rattle.lines.specs.Inner.{InLimits, narrow_at, Remains};
 
 use lists::EqualTo;
+use std::ops::Range;
 
 // No score is above this, and no list longer.
 const MOST: u32 = 4096;
@@ -279,7 +280,7 @@ impl Small<'_> {
 
     // The first drop tests the first two, the last drop the last two of what that leaves.
     #[tactic(auto, using(crate::proofs::Drops::both, crate::proofs::Windows::largest_part))]
-    pub fn kept_range(&self, e: u32) -> KeptRange
+    pub fn kept_lines(&self, e: u32) -> KeptRange
         requires { e ≤ 4096 }
         ensures { Remains e self.now.values.now result.from result.end }
     {
@@ -294,5 +295,45 @@ impl Small<'_> {
             from,
             end: lines.len() - dropped,
         }
+    }
+
+    // The same as the library's range, which cannot be copied.
+    pub fn kept_range(&self, e: u32) -> Range<usize>
+        requires { e ≤ 4096 }
+        ensures { Remains e self.now.values.now result.start result.end }
+    {
+        let kept = self.kept_lines(e);
+        kept.from..kept.end
+    }
+}
+
+#[cfg(test)]
+mod tests {
+    use super::*;
+
+    #[test]
+    fn lines_that_remain(rt: HostRuntime) {
+        // e is 10: a gap of 8 is narrow, one of 9 is not. Of two lines 8 apart the first is dropped, and then there is no gap.
+        let both = Small {
+            values: &[3, 11, 21, 31, 39],
+        };
+        assert_eq!(rt; both.kept_range(10), 1..4);
+        assert_eq!(rt; both.kept_range(9), 0..5);
+        let first = Small {
+            values: &[3, 11, 21],
+        };
+        assert_eq!(rt; first.kept_range(10), 1..3);
+        let last = Small {
+            values: &[3, 13, 21],
+        };
+        assert_eq!(rt; last.kept_range(10), 0..2);
+        let neither = Small {
+            values: &[3, 12, 22, 31],
+        };
+        assert_eq!(rt; neither.kept_range(10), 0..4);
+        let two = Small { values: &[3, 11] };
+        assert_eq!(rt; two.kept_range(10), 1..2);
+        let none = Small { values: &[] };
+        assert_eq!(rt; none.kept_range(10), 0..0);
     }
 }

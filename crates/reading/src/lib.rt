@@ -127,7 +127,7 @@ fn remaining_of(s: &Scores, scratch: &mut [u32], array: &mut [u32]) -> Result<Re
     let lines = Small {
         values: &array[..n],
     };
-    let kept = lines.kept_range(e);
+    let kept = lines.kept_lines(e);
     Ok(Remaining {
         from: kept.from,
         end: kept.end,

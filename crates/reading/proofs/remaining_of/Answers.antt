@@ -38,6 +38,6 @@ returns c =
     let found = c.find_lines-n.ensures in
     let counted = rw found.part at c.wide_gaps-m.ensures.counted in
     let e = rw (c.wide_gaps-m.ensures.part, found.part) at c.chosen_gap-e.ensures ∙ estimate_is (lines_of s.values.now) in
-    standing s.values.now s.limits found.front (rw found.part at c.kept_range-kept.ensures) e
+    standing s.values.now s.limits found.front (rw found.part at c.kept_lines-kept.ensures) e
     (omega (arith, counted, c.if-m-eq0.false))
     (omega (arith, c.if-e-ge-WIDE.false))
